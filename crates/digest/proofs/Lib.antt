@@ -1,0 +1,4 @@
+-- Laws that belong to no one function.
+pub mod Differ
+pub mod Strings
+pub mod Block
