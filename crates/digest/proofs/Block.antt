@@ -1,14 +1,15 @@
 -- The block of two digests by lanes, and the digest that the lanes of a state hold. Assumes nothing.
 use mathlib.Core.Path.{_≡_, refl, sym, ap, ap₂, _∙_}
-use mathlib.Core.Bool.{Bool, false}
+use mathlib.Core.Bool.{false}
 use mathlib.Core.List.{List, [], _∷_, _++_, append-assoc, flatMap, map}
 use Prim.Native.Nat.{ℕ}
 use lib.ListN.{replicate}
 use Rattle.keccak.specs.Fips202.{string}
-use Rattle.keccak.specs.Sponge.{bit, bitsOf, toBits, toBytes, pad10*1, keccak256}
+use Rattle.keccak.specs.Sponge.{bit, bitsOf, toBits, toBytes, pad10*1}
 use Rattle.keccak.specs.Laws.{block, firsts}
 use Rattle.digest.specs.declared.Digest.{Digest}
-use Rattle.digest.specs.Digest.{word, wordBytes, lowBytes, swapped, bytesOf, fromBytes, blockLanes, fromLanes}
+use Rattle.digest.specs.Digest.{wordBytes, bytesOf, fromBytes}
+use Rattle.digest.specs.Lanes.{lowBytes, swapped, blockLanes, fromLanes}
 use Rattle.digest.proofs.Strings.{Small, small-append, word-lane, lane-low, low-small, toBytes-toBits}
 
 flat-append : {A : Type 0} (f : ℕ → List A) (xs ys : List ℕ) → flatMap f (xs ++ ys) ≡ flatMap f xs ++ flatMap f ys

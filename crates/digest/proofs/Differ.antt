@@ -1,7 +1,6 @@
 -- Two digests that differ in a word are not the same. Assumes nothing.
-use Prim.Native.Nat.{ℕ}
 use mathlib.Core.Path.{_≡_}
-use mathlib.Core.Bool.{false, _&&_, and-false}
+use mathlib.Core.Bool.{false, and-false}
 use borrow.Author.Tests.{ne-eqb, eq-eqb}
 use lib.Dec.{eqb}
 use Rattle.digest.specs.declared.Digest.{Digest}

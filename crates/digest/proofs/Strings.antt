@@ -1,7 +1,7 @@
 -- Bytes to bits and back, and eight bytes as a number. Assumes nothing.
-use mathlib.Core.Path.{_≡_, refl, sym, ap, ap₂, _∙_, subst}
-use mathlib.Core.Bool.{Bool, true, false}
-use mathlib.Core.List.{List, [], _∷_, _++_, append-assoc, append-nil, flatMap}
+use mathlib.Core.Path.{_≡_, refl, sym, ap, ap₂, _∙_}
+use mathlib.Core.Bool.{Bool}
+use mathlib.Core.List.{List, [], _∷_, _++_, flatMap}
 use Prim.Native.Nat.{ℕ, zero, suc, _+_, _-_, _*_, _/_, _%_, _^_, _<_}
 use native.Mathlib.Nat.{mod-lt, div-one}
 use native.Mathlib.Numerals.{add-one}
@@ -12,7 +12,8 @@ use lib.Pow.{shr-shr, shr-lt}
 use Rattle.keccak.specs.Fips202.{pick, string}
 use Rattle.keccak.specs.Sponge.{bit, bitsOf, toBits, number, bytesFrom, toBytes}
 use Rattle.keccak.specs.Laws.{bit-shr, bit-mod, string-same, string-append, length-flat}
-use Rattle.digest.specs.Digest.{word, wordBytes, lowBytes, swapped}
+use Rattle.digest.specs.Digest.{word, wordBytes}
+use Rattle.digest.specs.Lanes.{lowBytes, swapped}
 
 -- each a byte
 abbrev pub Small : List ℕ → Type 0

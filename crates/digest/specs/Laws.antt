@@ -1,6 +1,6 @@
 -- Lemmas only, for this crate's proofs and for other crates: nothing here has to be believed. Assumes nothing.
 use mathlib.Core.Path.{_≡_, refl}
-use mathlib.Core.Bool.{Bool, true, false, _&&_, and-eq-true-iff}
+use mathlib.Core.Bool.{true, and-eq-true-iff}
 use borrow.Author.Tests.{eq-eqb, eqb-true}
 use lib.Dec.{eqb}
 use Rattle.digest.specs.declared.Digest.{Digest}

@@ -2,8 +2,9 @@
 ghost use mathlib.Core.Path.{_≡_};
 ghost use Prim.Native.Nat.{_+_, _<_};
 ghost use mathlib.Core.List.{[], _∷_};
-ghost use Rattle.digest.specs.Digest.{joined, sameDigest, zeroDigest, bytesOf, fromBytes, word, wordAt, wordBytes, eight, swapped, blockLanes, fromLanes};
-ghost use Rattle.keccak.specs.Laws.{grid};
+ghost use Rattle.digest.specs.Digest.{joined, sameDigest, zeroDigest, bytesOf, fromBytes, word, wordAt, wordBytes, eight};
+ghost use Rattle.digest.specs.Lanes.{swapped, blockLanes, fromLanes};
+ghost use Rattle.keccak.specs.Lanes.{grid};
 
 // The first word holds bytes 0 to 7, the highest first, and so on.
 pub struct Digest {

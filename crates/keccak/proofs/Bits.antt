@@ -1,13 +1,12 @@
 -- The bits of what the operations on numbers give. Assumes nothing.
-use mathlib.Core.Path.{_≡_, refl, sym, ap, ap₂, _∙_, subst}
+use mathlib.Core.Path.{_≡_, refl, sym, ap, ap₂, _∙_}
 use mathlib.Core.Bool.{Bool, true, false, _&&_, _||_, Bool·beq, or-false}
-use Prim.Native.Nat.{ℕ, zero, suc, _+_, _-_, _*_, _/_, _%_, _^_, _≤_, _<_, zero-le, min, max}
-use native.Mathlib.Nat.{le-of-suc-le-suc, not-suc-le-zero, mod-lt, mod-eq-of-lt, mul-mod-left, sub-add-cancel, add-comm, add-assoc, mul-assoc, le-of-lt, zero-add, add-zero, lt-of-lt-of-le, lt-of-not-le, mul-one, div-one}
+use Prim.Native.Nat.{ℕ, zero, suc, _+_, _-_, _*_, _/_, _%_, _^_, _≤_, _<_, min, max}
+use native.Mathlib.Nat.{le-of-suc-le-suc, not-suc-le-zero, mod-lt, mod-eq-of-lt, mul-mod-left, sub-add-cancel, mul-assoc, le-of-lt, add-zero, lt-of-lt-of-le, lt-of-not-le, mul-one, div-one}
 use native.Mathlib.Omega.{arith}
-use native.Mathlib.Numerals.{add-one}
 use native.Mathlib.Decide.{decLe}
-use lib.Arith.{digits-mod, lt-one}
-use lib.Pow.{pow-pos, pow-add, pow-mono, shr-shr, shl-shr, shr-lt, mod-pow-add, field, mod-mod-pow}
+use lib.Arith.{digits-mod}
+use lib.Pow.{pow-add, pow-mono, shl-shr, mod-pow-add}
 use lib.Bits.{bitAnd, bitOr, bitXor, differ, xor-shr, xor-step, and-shr, and-step, or-shr, or-step, xor-add-and, and-mask, shifted-even, or-self}
 use lib.Dec.{T, eqb, lit<}
 use Rattle.keccak.specs.Fips202.{_⊕_, back}
@@ -118,6 +117,10 @@ shl-wrap : (a j k : ℕ) → (a * 2 ^ k) % 2 ^ (j + k) ≡ (a % 2 ^ j) * 2 ^ k
 shl-wrap a j k =
     mod-pow-add (a * 2 ^ k) j k ∙ ap₂ (λ (n m : ℕ). n % 2 ^ j * 2 ^ k + m) (shl-shr a k) (mul-mod-left a (2 ^ k)) ∙ add-zero (a % 2 ^ j * 2 ^ k)
 
+-- what a shift up leaves of 64 bits
+shl-64 : (x n : ℕ) → n < 64 → (x * 2 ^ n) % 2 ^ 64 ≡ x % 2 ^ (64 - n) * 2 ^ n
+shl-64 x n h = ap (λ (k : ℕ). (x * 2 ^ n) % 2 ^ k) (sym (sub-add-cancel (le-of-lt h))) ∙ shl-wrap x (64 - n) n
+
 back-below : (z n : ℕ) → 0 < n → n < 64 → z < n → back z n ≡ (64 - n) + z
 back-below z n h0 h hz = omega arith
 
@@ -129,24 +132,20 @@ back-zero z hz = omega arith
 
 rot-below : (x n z : ℕ) → 0 < n → n < 64 → z < n → bit (bitOr ((x * 2 ^ n) % 2 ^ 64) (x / 2 ^ (64 - n))) z ≡ bit x (back z n)
 rot-below x n z h0 h hz =
-    let e : (64 - n) + n ≡ 64 = sub-add-cancel (le-of-lt h) in
-    let w : (x * 2 ^ n) % 2 ^ 64 ≡ x % 2 ^ (64 - n) * 2 ^ n = ap (λ (k : ℕ). (x * 2 ^ n) % 2 ^ k) (sym e) ∙ shl-wrap x (64 - n) n in
     let d : n ≡ suc (n - suc z) + z = omega arith in
     bit-or ((x * 2 ^ n) % 2 ^ 64) (x / 2 ^ (64 - n)) z
     ∙ ap₂ _||_
-    (ap (λ (k : ℕ). bit k z) (w ∙ ap (λ (k : ℕ). x % 2 ^ (64 - n) * 2 ^ k) d) ∙ bit-shl-low (x % 2 ^ (64 - n)) (n - suc z) z)
+    (ap (λ (k : ℕ). bit k z) (shl-64 x n h ∙ ap (λ (k : ℕ). x % 2 ^ (64 - n) * 2 ^ k) d) ∙ bit-shl-low (x % 2 ^ (64 - n)) (n - suc z) z)
     (bit-shr x (64 - n) z ∙ ap (bit x) (sym (back-below z n h0 h hz)))
 
 rot-above : (x n z : ℕ) → x < 2 ^ 64 → n < 64 → z < 64 → n ≤ z → bit (bitOr ((x * 2 ^ n) % 2 ^ 64) (x / 2 ^ (64 - n))) z ≡ bit x (back z n)
 rot-above x n z hx h hz hn =
-    let e : (64 - n) + n ≡ 64 = sub-add-cancel (le-of-lt h) in
-    let w : (x * 2 ^ n) % 2 ^ 64 ≡ x % 2 ^ (64 - n) * 2 ^ n = ap (λ (k : ℕ). (x * 2 ^ n) % 2 ^ k) (sym e) ∙ shl-wrap x (64 - n) n in
     let d : 64 - n ≡ suc (63 - z) + (z - n) = omega arith in
     let f : z ≡ n + (z - n) = omega arith in
     let g : 64 ≤ (64 - n) + z = omega arith in
     bit-or ((x * 2 ^ n) % 2 ^ 64) (x / 2 ^ (64 - n)) z
     ∙ ap₂ _||_
-    (ap₂ bit w f ∙ bit-shl-high (x % 2 ^ (64 - n)) n (z - n) ∙ ap (λ (k : ℕ). bit (x % 2 ^ k) (z - n)) d ∙ bit-mod x (63 - z) (z - n))
+    (ap₂ bit (shl-64 x n h) f ∙ bit-shl-high (x % 2 ^ (64 - n)) n (z - n) ∙ ap (λ (k : ℕ). bit (x % 2 ^ k) (z - n)) d ∙ bit-mod x (63 - z) (z - n))
     (bit-shr x (64 - n) z ∙ bit-past x ((64 - n) + z) (lt-of-lt-of-le hx (pow-mono g)))
     ∙ or-false (bit x (z - n))
     ∙ ap (bit x) (sym (back-above z n h hz hn))

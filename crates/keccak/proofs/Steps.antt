@@ -1,8 +1,8 @@
 -- The bits of each step on lanes are those of the step of FIPS 202, and each lane keeps 64 bits. Assumes nothing.
-use mathlib.Core.Path.{_≡_, refl, sym, ap, ap₂, _∙_, subst⁻¹}
+use mathlib.Core.Path.{_≡_, refl, ap, ap₂, _∙_, subst⁻¹}
 use mathlib.Core.Bool.{Bool, true, false, _&&_}
 use mathlib.Core.List.{List, [], _∷_}
-use Prim.Native.Nat.{ℕ, zero, suc, _+_, _-_, _*_, _/_, _%_, _^_, _<_}
+use Prim.Native.Nat.{ℕ, zero, suc, _+_, _-_, _*_, _%_, _^_, _<_}
 use native.Mathlib.Nat.{mod-lt, mod-eq-of-lt, div-le-self, lt-of-le-of-lt}
 use lib.Bits.{bitAnd, bitXor, xor-lt, or-lt, and-le-r}
 use lib.Dec.{eqb, lit<}
@@ -11,7 +11,7 @@ use lib.Pow.{pow-pos}
 use Rattle.keccak.specs.Fips202.{StateArray, _⊕_, pick, back, C, D, θ, offset, ρ, π, χ, ι, RC}
 use Rattle.keccak.specs.Sponge.{bit}
 use Rattle.keccak.specs.State.{lane, bits, Agree}
-use Rattle.keccak.specs.Lanes.{row, rows, rotated, turned, column, spread, thetaLanes, rhoLanes, piLanes, chiLane, chiLanes, iotaLanes}
+use Rattle.keccak.specs.Lanes.{row, rows, rotated, turned, column, spread, thetaLanes, rhoLanes, piLanes, chiLanes, iotaLanes}
 use Rattle.keccak.specs.Laws.{below5, at-row, lane-rows}
 use Rattle.keccak.proofs.Bits.{bit-xor, bit-and, bit-not, bit-rotated}
 

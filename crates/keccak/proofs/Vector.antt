@@ -8,9 +8,9 @@ use lib.Dec.{T, ltb, ltb→lt, lit<, lit≤}
 use lib.ListN.{getD, replicate}
 use Rattle.keccak.specs.Fips202.{keccakF, rounds, Rnd, offset, walk, string}
 use Rattle.keccak.specs.Sponge.{bit, bitsOf, toBits, pad10*1, number, bytesFrom, toBytes, keccak256}
-use Rattle.keccak.specs.State.{lane, bits, Agree}
-use Rattle.keccak.specs.Lanes.{thetaLanes, rhoLanes, piLanes, chiLanes, iotaLanes}
-use Rattle.keccak.specs.Laws.{firsts, agree-trans, ρ-same, π-same, χ-same, ι-same, Rnd-same, grid, block, by-lanes}
+use Rattle.keccak.specs.State.{bits, Agree}
+use Rattle.keccak.specs.Lanes.{grid, thetaLanes, rhoLanes, piLanes, chiLanes, iotaLanes}
+use Rattle.keccak.specs.Laws.{firsts, agree-trans, ρ-same, π-same, χ-same, ι-same, Rnd-same, block, by-lanes}
 use Rattle.keccak.proofs.Steps.{Bounded, rows-lt, theta-law, rho-law, pi-law, chi-law, iota-law, theta-bounded, rho-bounded, pi-bounded, chi-bounded, iota-bounded}
 use Rattle.keccak.proofs.Bits.{and-l, and-r}
 use Rattle.keccak.proofs.Constants.{constants, constant-law, constant-lt}

@@ -15,6 +15,10 @@ row f = f 0 ∷ f 1 ∷ f 2 ∷ f 3 ∷ f 4 ∷ []
 abbrev pub rows : (ℕ → ℕ → ℕ) → List (List ℕ)
 rows f = row (λ x. f x 0) ∷ row (λ x. f x 1) ∷ row (λ x. f x 2) ∷ row (λ x. f x 3) ∷ row (λ x. f x 4) ∷ []
 
+-- 25 lanes, in the order of 3.1.2
+abbrev pub grid : List ℕ → List (List ℕ)
+grid vs = rows (λ x y. getD vs (5 * y + x) 0)
+
 -- the bits of x, each n places up, those past the top at the bottom
 abbrev pub rotated : ℕ → ℕ → ℕ
 rotated x n = bitOr ((x * 2 ^ n) % 2 ^ 64) (x / 2 ^ ((64 - n) % 64))

@@ -1,20 +1,20 @@
 -- Lemmas only, for this crate's proofs and for other crates: nothing here has to be believed. Assumes nothing.
-use mathlib.Core.Path.{_≡_, refl, sym, ap, ap₂, _∙_, subst}
+use mathlib.Core.Path.{_≡_, refl, sym, ap, ap₂, _∙_}
 use mathlib.Core.Bool.{Bool, true, false, _&&_}
-use mathlib.Core.List.{List, [], _∷_, _++_, append-nil, append-assoc, zipWith, flatMap}
-use Prim.Native.Nat.{ℕ, zero, suc, _+_, _-_, _*_, _/_, _%_, _^_, _≤_, _<_}
+use mathlib.Core.List.{List, [], _∷_, _++_, zipWith, flatMap}
+use Prim.Native.Nat.{ℕ, zero, suc, _+_, _-_, _*_, _/_, _%_, _^_, _<_}
 use native.Mathlib.Nat.{le-of-suc-le-suc, not-suc-le-zero, mod-lt, zero-add, suc-add}
 use native.Mathlib.Numerals.{add-one}
 use native.Mathlib.Omega.{arith}
 use lib.Arith.{lt-one}
 use lib.Pow.{pow-pos, shr-shr, shr-lt, field, mod-mod-pow}
 use lib.Dec.{eqb, lit<}
-use lib.ListN.{length, take, drop, getD, replicate, length-append, length-replicate, List·getD-append}
+use lib.ListN.{length, take, getD, replicate, length-append, List·getD-append}
 use lib.Seq.{take-all, getD-append-add}
 use Rattle.keccak.specs.Fips202.{StateArray, _⊕_, pick, stateOf, string, laneString, planeString, stringOf, back, C, D, θ, offset, ρ, π, χ, ι, RC, Rnd, rounds, keccakF}
 use Rattle.keccak.specs.Sponge.{absorb, squeeze, sponge, pad10*1, permuted, keccak, bit, bitsOf, toBits, toBytes, keccak256}
 use Rattle.keccak.specs.State.{lane, bits, Agree}
-use Rattle.keccak.specs.Lanes.{row, rows}
+use Rattle.keccak.specs.Lanes.{row, rows, grid}
 
 -- ---- the steps read a state array only at places of a state
 mod5 : (x : ℕ) → x % 5 < 5
@@ -156,10 +156,6 @@ pub lane-rows : (f : ℕ → ℕ → ℕ) (x y : ℕ) → x < 5 → y < 5 → la
 lane-rows f x y hx hy =
     below5 (λ (y : ℕ). lane (rows f) x y ≡ f x y) (at-row (λ x. f x 0) x hx) (at-row (λ x. f x 1) x hx) (at-row (λ x. f x 2) x hx)
     (at-row (λ x. f x 3) x hx) (at-row (λ x. f x 4) x hx) y hy
-
--- 25 lanes, in the order of 3.1.2
-abbrev pub grid : List ℕ → List (List ℕ)
-grid vs = rows (λ x y. getD vs (5 * y + x) 0)
 
 grid-law : (vs : List ℕ) → Agree (bits (grid vs)) (stateOf (flatMap (bitsOf 64) vs))
 unfolding stateOf

@@ -28,7 +28,7 @@ fn round(a: [[u64; 5]; 5], i: usize) -> [[u64; 5]; 5]
 }
 
 // Each bit and the sums of two columns beside it (3.2.1).
-pub fn theta(a: [[u64; 5]; 5]) -> [[u64; 5]; 5]
+fn theta(a: [[u64; 5]; 5]) -> [[u64; 5]; 5]
     ensures { λ r. ⌜ Agree (bits r) (θ (bits a)) ⌝ }
 {
     let c = columns(a);
@@ -36,7 +36,7 @@ pub fn theta(a: [[u64; 5]; 5]) -> [[u64; 5]; 5]
 }
 
 // The bits of each lane, moved by the lane's offset (3.2.2).
-pub fn rho(a: [[u64; 5]; 5]) -> [[u64; 5]; 5]
+fn rho(a: [[u64; 5]; 5]) -> [[u64; 5]; 5]
     ensures { λ r. ⌜ Agree (bits r) (ρ (bits a)) ⌝ }
 {
     [
@@ -49,14 +49,14 @@ pub fn rho(a: [[u64; 5]; 5]) -> [[u64; 5]; 5]
 }
 
 // The lanes in another order (3.2.3).
-pub fn pi(a: [[u64; 5]; 5]) -> [[u64; 5]; 5]
+fn pi(a: [[u64; 5]; 5]) -> [[u64; 5]; 5]
     ensures { λ r. ⌜ Agree (bits r) (π (bits a)) ⌝ }
 {
     pi_lanes(a)
 }
 
 // Each bit and what two bits of its row give (3.2.4).
-pub fn chi(a: [[u64; 5]; 5]) -> [[u64; 5]; 5]
+fn chi(a: [[u64; 5]; 5]) -> [[u64; 5]; 5]
     ensures { λ r. ⌜ Agree (bits r) (χ (bits a)) ⌝ }
 {
     [

@@ -1,12 +1,13 @@
 -- `digest::join` meets its contract. Assumes nothing.
-use mathlib.Core.Path.{_≡_, refl, sym, ap, _∙_, subst}
+use mathlib.Core.Path.{refl, sym, ap, _∙_, subst}
 use mathlib.Core.List.{List, _++_}
 use Prim.Native.Nat.{ℕ}
 use borrow.Author.Needs.{needs}
 use Rattle.keccak.specs.Fips202.{keccakF}
 use Rattle.keccak.specs.State.{bits, Agree}
 use Rattle.keccak.specs.Laws.{by-lanes}
-use Rattle.digest.specs.Digest.{joined, bytesOf, fromBytes, blockLanes}
+use Rattle.digest.specs.Digest.{joined, bytesOf, fromBytes}
+use Rattle.digest.specs.Lanes.{blockLanes}
 use Rattle.digest.proofs.Block.{block-law, digest-law}
 use Rattle.digest.proofs.join.Statement.{statement}
 use Rattle.digest.proofs.join.Tie as tie

@@ -1,7 +1,5 @@
 -- `keccak::chi` meets its contract: its rows make the step on lanes. Assumes nothing.
-use mathlib.Core.Path.{_≡_}
 use borrow.Author.Needs.{needs}
-use Rattle.keccak.specs.Lanes.{chiLanes}
 use Rattle.keccak.proofs.Steps.{chi-law}
 use Rattle.keccak.proofs.Grid.{bounded, five, computed}
 use Rattle.keccak.proofs.chi.Statement.{statement}

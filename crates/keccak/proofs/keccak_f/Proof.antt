@@ -1,10 +1,10 @@
 -- `keccak::keccak_f` meets its contract. The invariant: after i rounds the state is that of the first i rounds. Assumes nothing.
 use mathlib.Core.Path.{_≡_, refl, subst, subst⁻¹}
-use Prim.Native.Nat.{ℕ, suc, _≤_, _-_}
+use Prim.Native.Nat.{ℕ, _≤_, _-_}
 use native.Mathlib.Numerals.{add-one}
 use native.Mathlib.Omega.{arith}
 use borrow.Author.Needs.{needs}
-use Rattle.keccak.specs.Fips202.{Rnd, rounds, keccakF}
+use Rattle.keccak.specs.Fips202.{rounds, keccakF}
 use Rattle.keccak.specs.State.{Agree, bits}
 use Rattle.keccak.specs.Laws.{agree-trans, Rnd-same}
 use Rattle.keccak.proofs.keccak_f.Statement.{statement}

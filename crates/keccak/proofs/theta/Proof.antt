@@ -1,5 +1,5 @@
 -- `keccak::theta` meets its contract. Assumes nothing.
-use mathlib.Core.Path.{_≡_, _∙_, ap}
+use mathlib.Core.Path.{_∙_, ap}
 use borrow.Author.Needs.{needs}
 use Rattle.keccak.specs.Lanes.{row, spread, mixed, thetaBy}
 use Rattle.keccak.proofs.Steps.{theta-law}
