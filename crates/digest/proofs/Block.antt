@@ -10,7 +10,7 @@ use Rattle.keccak.specs.Laws.{block, firsts}
 use Rattle.digest.specs.declared.Digest.{Digest}
 use Rattle.digest.specs.Digest.{wordBytes, bytesOf, fromBytes}
 use Rattle.digest.specs.Lanes.{lowBytes, swapped, blockLanes, fromLanes}
-use Rattle.digest.proofs.Strings.{Small, small-append, word-lane, lane-low, low-small, toBytes-toBits}
+use Rattle.digest.specs.Strings.{Small, small-append, word-lane, lane-low, low-small, toBytes-toBits}
 
 flat-append : {A : Type 0} (f : ℕ → List A) (xs ys : List ℕ) → flatMap f (xs ++ ys) ≡ flatMap f xs ++ flatMap f ys
 unfolding flatMap

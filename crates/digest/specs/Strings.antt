@@ -1,18 +1,18 @@
--- Bytes to bits and back, and eight bytes as a number. Assumes nothing.
+-- Lemmas only: bytes to bits and back, eight bytes as a word, and a digest of bytes. Nothing here has to be believed. Assumes nothing.
 use mathlib.Core.Path.{_≡_, refl, sym, ap, ap₂, _∙_}
-use mathlib.Core.Bool.{Bool}
+use mathlib.Core.Bool.{Bool, true, false}
 use mathlib.Core.List.{List, [], _∷_, _++_, flatMap}
-use Prim.Native.Nat.{ℕ, zero, suc, _+_, _-_, _*_, _/_, _%_, _^_, _<_}
-use native.Mathlib.Nat.{mod-lt, div-one}
+use Prim.Native.Nat.{ℕ, zero, suc, _+_, _-_, _*_, _/_, _%_, _^_, _≤_, _<_}
+use native.Mathlib.Nat.{mod-lt, div-one, not-suc-le-zero, le-of-suc-le-suc}
 use native.Mathlib.Numerals.{add-one}
 use native.Mathlib.Omega.{arith}
 use lib.Dec.{eqb, lit<}
-use lib.ListN.{length}
-use lib.Pow.{shr-shr, shr-lt}
+use lib.ListN.{length, getD, take, drop, length-take}
+use lib.Pow.{pow-pos, pow-add, shr-shr, shr-lt}
 use Rattle.keccak.specs.Fips202.{pick, string}
 use Rattle.keccak.specs.Sponge.{bit, bitsOf, toBits, number, bytesFrom, toBytes}
 use Rattle.keccak.specs.Laws.{bit-shr, bit-mod, string-same, string-append, length-flat}
-use Rattle.digest.specs.Digest.{word, wordBytes}
+use Rattle.digest.specs.Digest.{word, wordBytes, wordAt, eightAt, bytesOf, fromBytes}
 use Rattle.digest.specs.Lanes.{lowBytes, swapped}
 
 -- each a byte
@@ -23,6 +23,16 @@ Small (b ∷ bs) = (b < 2 ^ 8) × Small bs
 pub small-append : (xs ys : List ℕ) → Small xs → Small ys → Small (xs ++ ys)
 small-append [] ys p q = q
 small-append (x ∷ xs) ys p q = (p .0, small-append xs ys (p .1) q)
+
+pub small-take : (n : ℕ) (xs : List ℕ) → Small xs → Small (take n xs)
+small-take zero xs p = tt
+small-take (suc n) [] p = tt
+small-take (suc n) (x ∷ xs) p = (p .0, small-take n xs (p .1))
+
+pub small-drop : (n : ℕ) (xs : List ℕ) → Small xs → Small (drop n xs)
+small-drop zero xs p = p
+small-drop (suc n) [] p = tt
+small-drop (suc n) (x ∷ xs) p = small-drop n xs (p .1)
 
 -- ---- the bits of a number, eight and the others
 bits-split : (k x : ℕ) → bitsOf (8 + k) x ≡ bitsOf 8 (x % 2 ^ 8) ++ bitsOf k (x / 2 ^ 8)
@@ -118,3 +128,68 @@ unfolding toBytes toBits
 toBytes-toBits bs h =
     let e : length (toBits bs) / 8 ≡ length bs = omega (arith, length-flat 8 bs) in
     ap (λ (n : ℕ). bytesFrom n (toBits bs)) e ∙ bytes-flat bs h
+
+number-lt : (k : ℕ) (s : List Bool) → length s ≤ k → number s < 2 ^ k
+unfolding number
+number-lt k [] h = pow-pos k
+number-lt zero (b ∷ s) h = absurd (not-suc-le-zero h)
+number-lt (suc k) (b ∷ s) h = rw (← add-one k, pow-add 2 k 1) (at-most b (number-lt k s (le-of-suc-le-suc h)))
+  where
+    at-most : (b : Bool) {n m : ℕ} → n < m → pick b 1 0 + 2 * n < m * 2
+    at-most true p = omega arith
+    at-most false p = omega arith
+
+pub bytes-small : (n : ℕ) (s : List Bool) → Small (bytesFrom n s)
+unfolding bytesFrom
+bytes-small zero s = tt
+bytes-small (suc n) s = (number-lt 8 (take 8 s) (omega (arith, length-take 8 s)), bytes-small n (drop 8 s))
+
+pub length-bytes : (n : ℕ) (s : List Bool) → length (bytesFrom n s) ≡ n
+unfolding bytesFrom
+length-bytes zero s = refl
+length-bytes (suc n) s = ap suc (length-bytes n (drop 8 s))
+
+-- ---- bytes to a digest and back
+small-at : (b : List ℕ) → Small b → (j : ℕ) → getD b j 0 < 2 ^ 8
+small-at [] h j = lit< tt
+small-at (x ∷ b) h zero = h .0
+small-at (x ∷ b) h (suc j) = small-at b (h .1) j
+
+-- eight bytes, the lowest first, are those of their number
+low-back : (bs : List ℕ) → length bs ≡ 8 → Small bs → lowBytes (little bs) ≡ bs
+low-back bs l h =
+    sym (toBytes-toBits (lowBytes (little bs)) (low-small (little bs)))
+    ∙ ap toBytes (sym (lane-low (little bs)) ∙ ap (λ (n : ℕ). bitsOf (8 * n) (little bs)) (sym l) ∙ sym (toBits-little bs h))
+    ∙ toBytes-toBits bs h
+
+abbrev backwards : List ℕ → List ℕ
+backwards b =
+    getD b 7 0 ∷ getD b 6 0 ∷ getD b 5 0 ∷ getD b 4 0 ∷ getD b 3 0 ∷ getD b 2 0 ∷ getD b 1 0 ∷ getD b 0 0 ∷ []
+
+word-back : (b : List ℕ) → Small b → (i : ℕ) → wordBytes (wordAt b i) ≡ eightAt b i []
+word-back b h i =
+    let s : (j : ℕ) → getD b j 0 < 2 ^ 8 = small-at b h in
+    ap wordBytes (sym (turned-round _ _ _ _ _ _ _ _))
+    ∙ ap backwards (low-back (backwards (eightAt b i [])) refl (s (i + 7), (s (i + 6), (s (i + 5), (s (i + 4), (s (i + 3), (s (i + 2), (s (i + 1), (s i, tt)))))))))
+
+-- n elements from i on
+table : ℕ → ℕ → List ℕ → List ℕ
+table zero i b = []
+table (suc n) i b = getD b i 0 ∷ table n (suc i) b
+
+table-on : (n i x : ℕ) (b : List ℕ) → table n (suc i) (x ∷ b) ≡ table n i b
+unfolding table
+table-on zero i x b = refl
+table-on (suc n) i x b = ap (λ (ns : List ℕ). getD b i 0 ∷ ns) (table-on n (suc i) x b)
+
+table-all : (b : List ℕ) → table (length b) 0 b ≡ b
+unfolding table
+table-all [] = refl
+table-all (x ∷ b) = ap (λ (ns : List ℕ). x ∷ ns) (table-on (length b) 0 x b ∙ table-all b)
+
+pub bytes-back : (b : List ℕ) → length b ≡ 32 → Small b → bytesOf (fromBytes b) ≡ b
+unfolding bytesOf fromBytes table
+bytes-back b l h =
+    (λ i. word-back b h 0 i ++ word-back b h 8 i ++ word-back b h 16 i ++ word-back b h 24 i)
+    ∙ ap (λ (n : ℕ). table n 0 b) (sym l)
+    ∙ table-all b
