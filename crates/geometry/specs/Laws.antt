@@ -17,7 +17,6 @@ use Rattle.u256.specs.Value.{valueOf}
 use Rattle.domain.specs.declared.TournamentDescriptor.{TournamentDescriptor}
 use Rattle.domain.specs.declared.DomainError.{DomainError}
 use Rattle.domain.specs.declared.DomainError.the-variants.{ZeroCommitmentHeight, CoordinateGeometryOutOfRange, TournamentCycleRangeOverflow, ChildLevelMismatch}
-use Rattle.geometry.specs.declared.Checked.{Checked}
 use Rattle.geometry.specs.declared.Checked.the-variants.{Accepted, Refused}
 use Rattle.geometry.specs.Geometry.{refuse, checkDescriptor, childRules}
 

@@ -1,7 +1,7 @@
 -- Document 01, "Numbers to hold it to": the starred rows on geometry, each as the number that the definitions give beside the number
 -- that is wanted, and one statement that they are the same. Assumes nothing.
 use Prim.Native.Nat.{ℕ, _-_, _^_, _/_, _%_}
-use mathlib.Core.Path.{_≡_, refl, ap}
+use mathlib.Core.Path.{_≡_, refl}
 use mathlib.Core.List.{List, [], _∷_, _++_, map}
 use Rattle.digest.specs.Digest.{zeroDigest}
 use Rattle.u256.specs.Value.{valueOf}
@@ -11,7 +11,6 @@ use Rattle.domain.specs.declared.TournamentKind.the-variants.{NonLeaf}
 use Rattle.domain.specs.declared.MatchCoordinate.{MatchCoordinate}
 use Rattle.domain.specs.declared.MatchSide.{MatchSide}
 use Rattle.domain.specs.declared.MatchSide.the-variants.{One, Two}
-use Rattle.domain.specs.declared.LiveMatchState.{LiveMatchState}
 use Rattle.domain.specs.declared.LiveMatchState.the-variants.{Bisecting, SealedLeaf}
 use Rattle.geometry.specs.Geometry.{checkDescriptor, placeRules, unresolvedRules, matchGeometry, leafRules, childRules, childGeometry, numberOf}
 

@@ -1,13 +1,13 @@
 -- The sum of the base and the shifted position, where it has room; otherwise no cycle is it. Assumes nothing.
-use Prim.Native.Nat.{ℕ, _+_, _*_, _^_, _≤_}
+use Prim.Native.Nat.{ℕ, _+_, _*_, _^_}
 use mathlib.Core.Path.{_≡_, subst, ap, sym, _∙_}
 use native.Mathlib.Nat.{mod-eq-of-lt}
 use native.Mathlib.Omega.{arith}
 use borrow.Author.Needs.{needs}
 use borrow.Author.Tests.{ne-eqb}
 use lib.Dec.{eqb}
-use Rattle.u256.specs.Value.{valueOf, limit, Adds}
-use Rattle.u256.specs.Laws.{Words, fits}
+use Rattle.u256.specs.Value.{valueOf, Adds}
+use Rattle.u256.proofs.Laws.{Words, fits}
 use Rattle.geometry.proofs.cycle_is.Statement.{statement}
 use Rattle.geometry.proofs.cycle_is.Tie as tie
 

@@ -1,7 +1,7 @@
 -- The parent, the child, and then the two together. Assumes nothing.
-use mathlib.Core.Path.{_≡_, sym, _∙_}
+use mathlib.Core.Path.{sym, _∙_}
 use borrow.Author.Needs.{needs}
-use Rattle.geometry.specs.Geometry.{childGeometry, checkDescriptor}
+use Rattle.geometry.specs.Geometry.{childGeometry}
 use Rattle.geometry.specs.Laws.{spans}
 use Rattle.geometry.proofs.validate_child_geometry.Statement.{statement}
 use Rattle.geometry.proofs.validate_child_geometry.Tie as tie

@@ -1,5 +1,5 @@
 -- The descriptor, and then the state. Assumes nothing.
-use mathlib.Core.Path.{_≡_, sym, _∙_}
+use mathlib.Core.Path.{sym, _∙_}
 use borrow.Author.Needs.{needs}
 use Rattle.geometry.specs.Geometry.{matchGeometry}
 use Rattle.geometry.specs.Laws.{spans}
