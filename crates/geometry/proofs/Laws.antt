@@ -11,7 +11,7 @@ use borrow.Author.Tests.{ltb-true, ltb-false, le-leb, lt-leb}
 use lib.Dec.{ltb, leb}
 use lib.Pow.{high-ones, pow-mono}
 use Rattle.u256.specs.Value.{limit}
-use Rattle.u256.proofs.Laws.{power-fits}
+use Rattle.u256.specs.Laws.{power-fits}
 
 pub at-least : (a b : ℕ) (r : Bool) → r ≡ ltb a b → leb b a ≡ not r
 at-least a b true e = lt-leb b a (ltb-true a b (sym e))

@@ -7,7 +7,7 @@ use borrow.Author.Needs.{needs}
 use borrow.Author.Tests.{ne-eqb}
 use lib.Dec.{eqb}
 use Rattle.u256.specs.Value.{valueOf, Adds}
-use Rattle.u256.proofs.Laws.{Words, fits}
+use Rattle.u256.specs.Laws.{Words, fits}
 use Rattle.geometry.proofs.cycle_is.Statement.{statement}
 use Rattle.geometry.proofs.cycle_is.Tie as tie
 
