@@ -1,0 +1,13 @@
+-- By the test. Assumes nothing.
+use borrow.Author.Needs.{needs}
+use Rattle.observer.proofs.candidate_fits.Statement.{statement}
+use Rattle.observer.proofs.candidate_fits.Tie as tie
+
+returns : tie.Need-returns
+returns c = search needs
+
+returns-2 : tie.Need-returns-2
+returns-2 c = simp (c .if1 .left)
+
+pub candidate-fits-spec : {M : Type 1} → statement M
+candidate-fits-spec = tie.close (tie.spec returns returns-2)

@@ -1,0 +1,30 @@
+-- The phase, and then what the view shows. Assumes nothing.
+use borrow.Author.Needs.{needs}
+use Rattle.observer.specs.Views.{decodeReady}
+use Rattle.observer.proofs.decode_ready.Statement.{statement}
+use Rattle.observer.proofs.decode_ready.Tie as tie
+
+check-projection-requires : tie.Need-check-projection-requires
+check-projection-requires c κs = search needs
+
+enum-known-e : tie.Need-enum-known-e
+enum-known-e c = search needs
+
+enum-told : tie.Need-enum-told
+enum-told c = search needs
+
+ready-requires : tie.Need-ready-requires
+ready-requires c κs = search needs
+
+returns : tie.Need-returns
+unfolding decodeReady
+returns c = simp (← c .before .before .before .check-projection .ensures, c .before .e .given .1)
+
+returns-2 : tie.Need-returns-2
+unfolding decodeReady
+returns-2 c = simp (← c .before .before .before .check-projection .ensures, c .before .enum-told .given .1) (c .ready .ensures)
+
+pub decode-ready-spec : {M : Type 1} → statement M
+decode-ready-spec =
+    tie.close
+    (tie.spec check-projection-requires enum-known-e enum-told ready-requires returns returns-2)

@@ -1,0 +1,54 @@
+-- By the parent match and the place. Assumes nothing.
+use borrow.Author.Needs.{needs}
+use Rattle.observer.specs.Standing.{standingRules}
+use Rattle.observer.proofs.standing_at.Statement.{statement}
+use Rattle.observer.proofs.standing_at.Tie as tie
+
+enum-told : tie.Need-enum-told
+enum-told c = search needs
+
+root-standing-requires : tie.Need-root-standing-requires
+root-standing-requires c κs = search needs
+
+illegal-requires : tie.Need-illegal-requires
+illegal-requires c κs = search needs
+
+enum-known-parent-match : tie.Need-enum-known-parent-match
+enum-known-parent-match c = search needs
+
+illegal-requires-2 : tie.Need-illegal-requires-2
+illegal-requires-2 c κs = search needs
+
+inner-standing-requires : tie.Need-inner-standing-requires
+inner-standing-requires c κs = search needs
+
+returns : tie.Need-returns
+unfolding standingRules
+returns c = simp (c .before .if1 .taken, c .before .before .enum-told .given .1) (c .root-standing .ensures)
+
+returns-2 : tie.Need-returns-2
+unfolding standingRules
+returns-2 c = simp (c .before .if1 .left, c .before .before .enum-told .given .1) (c .illegal .ensures)
+
+returns-3 : tie.Need-returns-3
+unfolding standingRules
+returns-3 c = simp (c .before .if2 .taken, c .before .before .before .parent-match .given .1) (c .illegal2 .ensures)
+
+returns-4 : tie.Need-returns-4
+unfolding standingRules
+returns-4 c = simp (c .before .if2 .left, c .before .before .before .parent-match .given .1) (c .inner-standing .ensures)
+
+pub standing-at-spec : {M : Type 1} → statement M
+standing-at-spec =
+    tie.close
+    (tie.spec
+    enum-told
+    root-standing-requires
+    illegal-requires
+    enum-known-parent-match
+    illegal-requires-2
+    inner-standing-requires
+    returns
+    returns-2
+    returns-3
+    returns-4)
