@@ -1,0 +1,112 @@
+-- `chains_hold` walks both chains of every tournament. Each inner loop keeps what the rest of its chain answers. Assumes nothing.
+use borrow.Author.Needs.{needs}
+use borrow.Author.Tests.{not-true, not-false, eq-eqb, ne-eqb}
+use Prim.Native.Nat.{ℕ, _≤_, _<_, _-_, _+_}
+use native.Mathlib.Omega.{arith}
+use mathlib.Core.Path.{_≡_, refl, ap, ap₂, _∙_, sym}
+use mathlib.Core.Logic.{⊎-elim, inl, inr}
+use mathlib.Core.Bool.{true, false, not, _&&_, _||_, and-true}
+use lib.Dec.{eqb}
+use lib.ListN.{length-map}
+use Rattle.store.specs.Rows.{tournamentAt, matchAt, commitmentAt, sameLink, freeStatus, usedTournament}
+use Rattle.store.specs.Scan.{allAt}
+use Rattle.store.specs.Chain.{nextMatch, nextCommitment, hasRoot}
+use Rattle.store.specs.Laws.{all-end, all-on, all-not}
+use Rattle.store.specs.declared.Link.the-variants.{End, At}
+use Rattle.sound.specs.Tests.{isEnd, rowOr}
+use Rattle.sound.specs.Sound.{chained, commitmentsChained, matchesChained, commitmentIn, matchIn, runs}
+use Rattle.sound.specs.Laws.{Sized, row-at, told-not, told-so, no-left, no-right, both-hold, runs-not, runs-on, runs-stop, past-commitment-in, past-match-in}
+use Rattle.sound.proofs.chains_hold.Statement.{statement}
+use Rattle.sound.proofs.chains_hold.Tie as tie
+
+abbrev Inv-loop2 : tie.InvT-loop2
+Inv-loop2 s t tournament c₀ k₀ c k = runs (nextCommitment s) (commitmentIn s t) (λ i a. a) (λ a. true) k c End ≡ commitmentsChained s t
+
+abbrev μ-loop2 : tie.MeasureT-loop2
+μ-loop2 s t tournament c₀ k₀ c k = k
+
+abbrev Inv-loop3 : tie.InvT-loop3
+Inv-loop3 s t k last prior₀ l₀ m₀ prior l m =
+    runs (nextMatch s) (matchIn s t) (λ j a. At j) (λ a. sameLink a last) m l prior ≡ matchesChained s t
+
+abbrev μ-loop3 : tie.MeasureT-loop3
+μ-loop3 s t k last prior₀ l₀ m₀ prior l m = m
+
+abbrev Inv-loop : tie.InvT-loop
+Inv-loop s n₀ n = Sized s × (n ≤ 32) × (allAt (chained s) n (32 - n) ≡ allAt (chained s) 0 32)
+
+abbrev μ-loop : tie.MeasureT-loop
+μ-loop s n₀ n = 32 - n
+
+loop-holds : tie.Need-loop-holds Inv-loop2 μ-loop2 Inv-loop3 μ-loop3 Inv-loop μ-loop
+loop-holds c = (
+  record {
+    tournaments = sym (length-map (c .args .t1 .tournaments) _) ∙ c .good .0 .1 .1 .0 .1 .0 .1;
+    matches = sym (length-map (c .args .t1 .matches) _) ∙ c .good .0 .1 .1 .1 .0 .1 .0 .1;
+    commitments = sym (length-map (c .args .t1 .commitments) _) ∙ c .good .0 .1 .1 .1 .1 .0 .1 .0 .1;
+  },
+  omega arith,
+  refl,
+)
+
+returns : tie.Need-returns Inv-loop2 μ-loop2 Inv-loop3 μ-loop3 Inv-loop μ-loop
+returns c =
+    all-not _ _ 32 _ (c .before .before .before .before .before .before .before .before .before .before .loop .inv .2) (c .before .before .before .before .before .before .before .before .before .loop-test .taken)
+    (no-left _ _ (runs-not _ _ _ _ _ _ _ _ _ (c .before .before .before .before .before .before .before .loop2 .inv) (row-at 256 _ _ (c .before .before .before .before .before .row-of .ensures) (c .before .before .before .before .if1 .left)) (not-true _ (c .if2 .taken))))
+
+loop2-again : tie.Need-loop2-again Inv-loop2 μ-loop2 Inv-loop3 μ-loop3 Inv-loop μ-loop
+loop2-again c =
+    runs-on _ _ _ _ _ _ _ _ _ (c .before .before .before .before .before .before .before .loop2 .inv) (c .before .before .before .before .before .before .loop2-test .taken) (row-at 256 _ _ (c .before .before .before .before .before .row-of .ensures) (c .before .before .before .before .if1 .left)) (not-false _ (c .if2 .left))
+
+returns-2 : tie.Need-returns-2 Inv-loop2 μ-loop2 Inv-loop3 μ-loop3 Inv-loop μ-loop
+returns-2 c =
+    all-not _ _ 32 _ (c .before .before .before .before .before .before .loop .inv .2) (c .before .before .before .before .before .loop-test .taken)
+    (no-left _ _
+    (sym (told-not _ _ (c .before .is-end .ensures) (c .if3 .taken)) ∙ sym (and-true _) ∙ (runs-stop _ _ _ _ _ _ _ _ 256 (c .before .before .before .loop2 .inv)
+    (⊎-elim (λ w. inl (omega (arith, w .left))) (λ w. inr (omega (arith, w .1 .ensures, w .2 .taken))) (c .before .before .loop2-test .came))
+    (λ i h. past-commitment-in (c .before .before .before .before .before .before .before .args .t1) (c .before .before .before .before .before .before .loop .inv .0) i _ h))))
+
+returns-3 : tie.Need-returns-3 Inv-loop2 μ-loop2 Inv-loop3 μ-loop3 Inv-loop μ-loop
+returns-3 c =
+    all-not _ _ 32 _ (c .before .before .before .before .before .before .before .before .before .before .before .before .before .before .loop .inv .2) (c .before .before .before .before .before .before .before .before .before .before .before .before .before .loop-test .taken)
+    (no-right (commitmentsChained (c .before .before .before .before .before .before .before .before .before .before .before .before .before .before .before .args .t1) (c .before .before .before .before .before .before .before .before .before .before .before .before .before .before .loop .t)) _ (runs-not _ _ _ _ _ _ _ _ _ (c .before .before .before .before .before .before .before .loop3 .inv) (row-at 128 _ _ (c .before .before .before .before .before .row-of2 .ensures) (c .before .before .before .before .if4 .left))
+    (ap (λ b. not b && eqb (matchAt (c .before .before .before .before .before .before .before .before .before .before .before .before .before .before .before .args .t1) (c .before .before .before .before .before .row-of2 .result) .tournament) (c .before .before .before .before .before .before .before .before .before .before .before .before .before .before .loop .t)) (sym (c .before .before .is-free .ensures)) ∙ not-true _ (c .if5 .taken))))
+
+loop3-again : tie.Need-loop3-again Inv-loop2 μ-loop2 Inv-loop3 μ-loop3 Inv-loop μ-loop
+loop3-again c =
+    runs-on _ _ _ _ _ _ _ _ _ (c .before .before .before .before .before .before .before .loop3 .inv) (c .before .before .before .before .before .before .loop3-test .taken) (row-at 128 _ _ (c .before .before .before .before .before .row-of2 .ensures) (c .before .before .before .before .if4 .left))
+    (ap (λ b. not b && eqb (matchAt (c .before .before .before .before .before .before .before .before .before .before .before .before .before .before .before .args .t1) (c .before .before .before .before .before .row-of2 .result) .tournament) (c .before .before .before .before .before .before .before .before .before .before .before .before .before .before .loop .t)) (sym (c .before .before .is-free .ensures)) ∙ not-false _ (c .if5 .left))
+
+returns-4 : tie.Need-returns-4 Inv-loop2 μ-loop2 Inv-loop3 μ-loop3 Inv-loop μ-loop
+returns-4 c =
+    all-not _ _ 32 _ (c .before .before .before .before .before .before .before .before .before .before .before .loop .inv .2) (c .before .before .before .before .before .before .before .before .before .before .loop-test .taken)
+    (no-right (commitmentsChained (c .before .before .before .before .before .before .before .before .before .before .before .before .args .t1) (c .before .before .before .before .before .before .before .before .before .before .before .loop .t)) _
+    (sym (not-true _ (c .if6 .taken)) ∙ ap₂ _&&_ (c .before .before .is-end2 .ensures) (c .before .equal .ensures) ∙ (runs-stop _ _ _ _ _ _ _ _ 128 (c .before .before .before .before .loop3 .inv)
+    (⊎-elim (λ w. inl (omega (arith, w .left))) (λ w. inr (omega (arith, w .1 .ensures, w .2 .taken))) (c .before .before .before .loop3-test .came))
+    (λ j h. past-match-in (c .before .before .before .before .before .before .before .before .before .before .before .before .args .t1) (c .before .before .before .before .before .before .before .before .before .before .before .loop .inv .0) j _ h))))
+
+loop-again : tie.Need-loop-again Inv-loop2 μ-loop2 Inv-loop3 μ-loop3 Inv-loop μ-loop
+loop-again c = (
+  c .before .before .before .before .before .before .before .before .before .before .before .loop .inv .0,
+  omega arith,
+  all-on _ _ 32 _ (c .before .before .before .before .before .before .before .before .before .before .before .loop .inv .2) (c .before .before .before .before .before .before .before .before .before .before .loop-test .taken)
+      (both-hold _ _
+      (sym (told-so _ _ (c .before .before .before .before .before .before .is-end .ensures) (c .before .before .before .before .before .if3 .left)) ∙ sym (and-true _) ∙ (runs-stop _ _ _ _ _ _ _ _ 256 (c .before .before .before .before .before .before .before .before .loop2 .inv)
+      (⊎-elim (λ w. inl (omega (arith, w .left))) (λ w. inr (omega (arith, w .1 .ensures, w .2 .taken))) (c .before .before .before .before .before .before .before .loop2-test .came))
+      (λ i h. past-commitment-in (c .before .before .before .before .before .before .before .before .before .before .before .before .args .t1) (c .before .before .before .before .before .before .before .before .before .before .before .loop .inv .0) i _ h)))
+      (sym (not-false _ (c .if6 .left)) ∙ ap₂ _&&_ (c .before .before .is-end2 .ensures) (c .before .equal .ensures) ∙ (runs-stop _ _ _ _ _ _ _ _ 128 (c .before .before .before .before .loop3 .inv)
+      (⊎-elim (λ w. inl (omega (arith, w .left))) (λ w. inr (omega (arith, w .1 .ensures, w .2 .taken))) (c .before .before .before .loop3-test .came))
+      (λ j h. past-match-in (c .before .before .before .before .before .before .before .before .before .before .before .before .args .t1) (c .before .before .before .before .before .before .before .before .before .before .before .loop .inv .0) j _ h)))),
+)
+
+returns-5 : tie.Need-returns-5 Inv-loop2 μ-loop2 Inv-loop3 μ-loop3 Inv-loop μ-loop
+returns-5 c = all-end _ _ 32 _ (c .before .loop .inv .2) (omega arith)
+
+pub chains-hold-spec : {M : Type 1} → statement M
+chains-hold-spec =
+    tie.close
+    (tie.spec Inv-loop2 μ-loop2 Inv-loop3 μ-loop3 Inv-loop μ-loop loop-holds (λ c. search needs) (λ c. search needs)
+    (λ c. search needs) (λ c κs. search needs) (λ c. search needs) (λ c. search needs) returns (λ c. search needs)
+    (λ c. search needs) loop2-again (λ c κs. search needs) returns-2 (λ c. search needs) (λ c κs. search needs)
+    (λ c. search needs) (λ c. search needs) (λ c κs. search needs) returns-3 (λ c. search needs) (λ c. search needs) loop3-again
+    (λ c κs. search needs) (λ c κs. search needs) returns-4 (λ c. search needs) (λ c. search needs) loop-again returns-5)

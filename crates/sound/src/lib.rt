@@ -1,0 +1,537 @@
+// The soundness test: whether the used rows of a store form one tree and its free rows are clear.
+//
+// It is one condition for each row, with at most one walk along a chain each; no row is marked or changed. Each function here goes
+// through all rows of one kind, so that the store is taken over as few times as can be.
+use digest::Digest;
+use domain::Address;
+use domain::OptionDigest;
+use domain::TournamentDescriptor;
+use domain::TournamentKind;
+use geometry::Checked;
+use store::CommitmentRow;
+use store::Link;
+use store::MatchRow;
+use store::MatchStatus;
+use store::Store;
+use store::TournamentRow;
+use u256::U256;
+ghost use mathlib.Core.Path.{_≡_};
+ghost use mathlib.Core.Bool.{true, not};
+ghost use Rattle.store.specs.Rows.{freeStatus};
+ghost use Rattle.store.specs.Scan.{allAt};
+ghost use Rattle.sound.specs.Tests.{isEnd, rowOr, sameLatest, leafKind, descriptorOk, isZero, isClearDescriptor, isClearTournament, isClearMatch, isClearCommitment};
+ghost use Rattle.sound.specs.Sound.{rowFits, fitsRow, tournamentRises, chained, commitmentReached, commitmentLatest, matchJoined, matchReached, namesRoot, laterOf, matchFits, childFits, childOrRoot, soundRows};
+
+// Whether the store is sound. Every public entry over a store, except opening, answers 61 where it is not.
+pub fn sound(s: Store) -> bool
+    ensures { λ r. ⌜ r ≡ soundRows s ⌝ }
+{
+    if !tournaments_rise(s) {
+        return false;
+    }
+    if !chains_hold(s) {
+        return false;
+    }
+    if !commitments_reached(s) {
+        return false;
+    }
+    if !latest_right(s) {
+        return false;
+    }
+    if !matches_joined(s) {
+        return false;
+    }
+    matches_reached(s)
+}
+
+// Whether each tournament in use fits its row and rises to row 0 by at most 8 tournaments, and each free row is clear.
+fn tournaments_rise(s: Store) -> bool
+    ensures { λ r. ⌜ r ≡ allAt (tournamentRises s) 0 32 ⌝ }
+{
+    let mut n: usize = 0;
+    'rows: while n < 32 {
+        let t = n;
+        n += 1;
+        let row = s.tournaments[t];
+        if !tournament_fits(row, t) {
+            return false;
+        }
+        if !row.used {
+            continue;
+        }
+        let mut u = t;
+        let mut k: usize = 8;
+        while k > 0 {
+            if u >= 32 {
+                return false;
+            }
+            let above = s.tournaments[u];
+            let parent = above.parent;
+            let j = row_of(parent, 128);
+            if j >= 128 {
+                if above.used & (u == 0) & is_end(parent) {
+                    continue 'rows;
+                }
+                return false;
+            }
+            let delegated = s.matches[j];
+            let status = delegated.status;
+            if !(above.used & (status.child_row() == u)) {
+                return false;
+            }
+            u = delegated.tournament;
+            k -= 1;
+        }
+        return false;
+    }
+    true
+}
+
+// Whether the chains of each tournament end and hold only rows in use that name it, and `last` is the last match.
+fn chains_hold(s: Store) -> bool
+    ensures { λ r. ⌜ r ≡ allAt (chained s) 0 32 ⌝ }
+{
+    let mut t: usize = 0;
+    while t < 32 {
+        let tournament = s.tournaments[t];
+        let mut c = tournament.commitments;
+        let mut k: usize = 256;
+        while k > 0 {
+            let i = row_of(c, 256);
+            if i >= 256 {
+                break;
+            }
+            let row = s.commitments[i];
+            if !(row.used & (row.tournament == t)) {
+                return false;
+            }
+            c = row.next;
+            k -= 1;
+        }
+        if !is_end(c) {
+            return false;
+        }
+        let last = tournament.last;
+        let mut prior = Link::End;
+        let mut l = tournament.matches;
+        let mut m: usize = 128;
+        while m > 0 {
+            let j = row_of(l, 128);
+            if j >= 128 {
+                break;
+            }
+            let row = s.matches[j];
+            let status = row.status;
+            if !(!status.is_free() & (row.tournament == t)) {
+                return false;
+            }
+            prior = Link::At(j);
+            l = row.next;
+            m -= 1;
+        }
+        if !(is_end(l) & prior.equal(last)) {
+            return false;
+        }
+        t += 1;
+    }
+    true
+}
+
+// Whether each commitment in use is met by its tournament's chain with none of the same root before it, and each free row is clear.
+fn commitments_reached(s: Store) -> bool
+    ensures { λ r. ⌜ r ≡ allAt (commitmentReached s) 0 256 ⌝ }
+{
+    let mut n: usize = 0;
+    'rows: while n < 256 {
+        let i = n;
+        n += 1;
+        let row = s.commitments[i];
+        if !commitment_fits(row) {
+            return false;
+        }
+        if !row.used {
+            continue;
+        }
+        let root = row.root;
+        let t = row.tournament;
+        if t >= 32 {
+            return false;
+        }
+        let tournament = s.tournaments[t];
+        let mut l = tournament.commitments;
+        let mut k: usize = 256;
+        while k > 0 {
+            let j = row_of(l, 256);
+            if j >= 256 {
+                return false;
+            }
+            if j == i {
+                continue 'rows;
+            }
+            let other = s.commitments[j];
+            let other_root = other.root;
+            if digest::equal(other_root, root) {
+                return false;
+            }
+            l = other.next;
+            k -= 1;
+        }
+        return false;
+    }
+    true
+}
+
+// Whether the latest match of each commitment in use is the last created that names it.
+fn latest_right(s: Store) -> bool
+    ensures { λ r. ⌜ r ≡ allAt (commitmentLatest s) 0 256 ⌝ }
+{
+    let mut i: usize = 0;
+    while i < 256 {
+        let row = s.commitments[i];
+        i += 1;
+        if !row.used {
+            continue;
+        }
+        let root = row.root;
+        let t = row.tournament;
+        if t >= 32 {
+            return false;
+        }
+        let tournament = s.tournaments[t];
+        let mut latest = OptionDigest::None;
+        let mut l = tournament.matches;
+        let mut k: usize = 128;
+        while k > 0 {
+            let j = row_of(l, 128);
+            if j >= 128 {
+                break;
+            }
+            let match_ = s.matches[j];
+            latest = later(match_, root, latest);
+            l = match_.next;
+            k -= 1;
+        }
+        let kept = row.latest_match;
+        if !(tournament.used & same_latest(latest, kept)) {
+            return false;
+        }
+    }
+    true
+}
+
+// Whether both commitments of each match in use have joined its tournament.
+fn matches_joined(s: Store) -> bool
+    ensures { λ r. ⌜ r ≡ allAt (matchJoined s) 0 128 ⌝ }
+{
+    let mut n: usize = 0;
+    'rows: while n < 128 {
+        let row = s.matches[n];
+        n += 1;
+        let status = row.status;
+        if status.is_free() {
+            continue;
+        }
+        let id = row.id;
+        let t = row.tournament;
+        if t >= 32 {
+            return false;
+        }
+        let tournament = s.tournaments[t];
+        let mut one = false;
+        let mut two = false;
+        let mut l = tournament.commitments;
+        let mut k: usize = 256;
+        while k > 0 {
+            let j = row_of(l, 256);
+            if j >= 256 {
+                return false;
+            }
+            let commitment = s.commitments[j];
+            one = one | commitment.has_root(id.commitment_one);
+            two = two | commitment.has_root(id.commitment_two);
+            if one & two {
+                continue 'rows;
+            }
+            l = commitment.next;
+            k -= 1;
+        }
+        return false;
+    }
+    true
+}
+
+// Whether each match in use keeps its id hash, its child names it, and it is met by its tournament's chain, with none of the same
+// id hash before it unless it is clocked; and each free row is clear.
+fn matches_reached(s: Store) -> bool
+    ensures { λ r. ⌜ r ≡ allAt (matchReached s) 0 128 ⌝ }
+{
+    let mut n: usize = 0;
+    'rows: while n < 128 {
+        let i = n;
+        n += 1;
+        let row = s.matches[i];
+        let status = row.status;
+        let c = child_or_root(status);
+        let t = row.tournament;
+        if c >= 32 {
+            return false;
+        }
+        let child = s.tournaments[c];
+        let parent = child.parent;
+        if !match_fits(row, parent, i) {
+            return false;
+        }
+        if status.is_free() {
+            continue;
+        }
+        if t >= 32 {
+            return false;
+        }
+        let clocked = status.is_clocked();
+        let id_hash = row.id_hash;
+        let tournament = s.tournaments[t];
+        let mut l = tournament.matches;
+        let mut k: usize = 128;
+        while k > 0 {
+            let j = row_of(l, 128);
+            if j >= 128 {
+                return false;
+            }
+            if j == i {
+                continue 'rows;
+            }
+            let other = s.matches[j];
+            let other_hash = other.id_hash;
+            if !clocked & digest::equal(other_hash, id_hash) {
+                return false;
+            }
+            l = other.next;
+            k -= 1;
+        }
+        return false;
+    }
+    true
+}
+
+// A used tournament's descriptor passes 1 to 3, and the root's has level 0; a free row is clear.
+fn tournament_fits(row: TournamentRow, t: usize) -> bool
+    ensures { λ r. ⌜ r ≡ rowFits (row .used) (fitsRow (row .descriptor) t) (isClearTournament row) ⌝ }
+{
+    let descriptor = row.descriptor;
+    if row.used {
+        descriptor_ok(descriptor) & ((t != 0) | descriptor.is_root())
+    } else {
+        is_clear_tournament(row)
+    }
+}
+
+// A commitment's row that is free is clear.
+fn commitment_fits(row: CommitmentRow) -> bool
+    ensures { λ r. ⌜ r ≡ rowFits (row .used) true (isClearCommitment row) ⌝ }
+{
+    if row.used {
+        true
+    } else {
+        is_clear_commitment(row)
+    }
+}
+
+// A used match keeps its own id hash, and a delegated one's child, whose parent link is given, names row i; a free row is clear.
+fn match_fits(row: MatchRow, parent: Link, i: usize) -> bool
+    ensures { λ r. ⌜ r ≡ rowFits (not (freeStatus (row .status))) (matchFits row parent i) (isClearMatch row) ⌝ }
+{
+    let status = row.status;
+    let id = row.id;
+    let id_hash = row.id_hash;
+    if status.is_free() {
+        is_clear_match(row)
+    } else {
+        digest::equal(id.hash(), id_hash) & child_fits(status, parent, i)
+    }
+}
+
+// Whether the rules 1 to 3 accept a descriptor.
+fn descriptor_ok(d: TournamentDescriptor) -> bool
+    ensures { λ r. ⌜ r ≡ descriptorOk d ⌝ }
+{
+    let checked = geometry::check_descriptor(d);
+    match checked {
+        Checked::Accepted => true,
+        Checked::Refused(_) => false,
+    }
+}
+
+// Whether a match that is delegated has the child whose parent link is given.
+fn child_fits(status: MatchStatus, parent: Link, i: usize) -> bool
+    ensures { λ r. ⌜ r ≡ childFits status parent i ⌝ }
+{
+    match status {
+        MatchStatus::Free => true,
+        MatchStatus::Clocked { eliminable_at: _ } => true,
+        MatchStatus::Leaf { eliminable_at: _ } => true,
+        MatchStatus::Inner { child: _ } => parent.equal(Link::At(i)),
+        MatchStatus::Resolved {
+            reason: _,
+            winner: _,
+        } => true,
+    }
+}
+
+// The row of a delegated match's child; row 0 where there is none.
+fn child_or_root(status: MatchStatus) -> usize
+    ensures { λ r. ⌜ r ≡ childOrRoot status ⌝ }
+{
+    match status {
+        MatchStatus::Free => 0,
+        MatchStatus::Clocked { eliminable_at: _ } => 0,
+        MatchStatus::Leaf { eliminable_at: _ } => 0,
+        MatchStatus::Inner { child } => child,
+        MatchStatus::Resolved {
+            reason: _,
+            winner: _,
+        } => 0,
+    }
+}
+
+// The latest match of the commitment with that root once `row` is created, `latest` before.
+fn later(row: MatchRow, root: Digest, latest: OptionDigest) -> OptionDigest
+    ensures { λ r. ⌜ r ≡ laterOf row root latest ⌝ }
+{
+    if names(row, root) {
+        let id_hash = row.id_hash;
+        OptionDigest::Some(id_hash)
+    } else {
+        latest
+    }
+}
+
+// Whether the row is in use and names that commitment.
+fn names(row: MatchRow, root: Digest) -> bool
+    ensures { λ r. ⌜ r ≡ namesRoot row root ⌝ }
+{
+    let status = row.status;
+    let id = row.id;
+    !status.is_free()
+        & (digest::equal(id.commitment_one, root) | digest::equal(id.commitment_two, root))
+}
+
+// A link as a row's number, and n where it is an end.
+fn row_of(l: Link, n: usize) -> usize
+    ensures { λ r. ⌜ r ≡ rowOr n l ⌝ }
+{
+    match l {
+        Link::End => n,
+        Link::At(i) => i,
+    }
+}
+
+// Whether a chain ends here.
+fn is_end(l: Link) -> bool
+    ensures { λ r. ⌜ r ≡ isEnd l ⌝ }
+{
+    match l {
+        Link::End => true,
+        Link::At(_) => false,
+    }
+}
+
+// Whether two latest matches are the same.
+fn same_latest(a: OptionDigest, b: OptionDigest) -> bool
+    ensures { λ r. ⌜ r ≡ sameLatest a b ⌝ }
+{
+    match a {
+        OptionDigest::None => match b {
+            OptionDigest::None => true,
+            OptionDigest::Some(_) => false,
+        },
+        OptionDigest::Some(x) => match b {
+            OptionDigest::None => false,
+            OptionDigest::Some(y) => digest::equal(x, y),
+        },
+    }
+}
+
+// Whether a tournament's row is the clear one.
+fn is_clear_tournament(row: TournamentRow) -> bool
+    ensures { λ r. ⌜ r ≡ isClearTournament row ⌝ }
+{
+    let descriptor = row.descriptor;
+    let parent = row.parent;
+    let commitments = row.commitments;
+    let matches = row.matches;
+    let last = row.last;
+    !row.used
+        & is_clear_descriptor(descriptor)
+        & is_end(parent)
+        & is_end(commitments)
+        & is_end(matches)
+        & is_end(last)
+}
+
+// Whether a match's row is the clear one.
+fn is_clear_match(row: MatchRow) -> bool
+    ensures { λ r. ⌜ r ≡ isClearMatch row ⌝ }
+{
+    let next = row.next;
+    let id = row.id;
+    let id_hash = row.id_hash;
+    let status = row.status;
+    let zero = digest::zero();
+    (row.tournament == 0)
+        & is_end(next)
+        & digest::equal(id.commitment_one, zero)
+        & digest::equal(id.commitment_two, zero)
+        & digest::equal(id_hash, zero)
+        & status.is_free()
+}
+
+// Whether a commitment's row is the clear one.
+fn is_clear_commitment(row: CommitmentRow) -> bool
+    ensures { λ r. ⌜ r ≡ isClearCommitment row ⌝ }
+{
+    let next = row.next;
+    let root = row.root;
+    let latest = row.latest_match;
+    !row.used
+        & (row.tournament == 0)
+        & is_end(next)
+        & digest::equal(root, digest::zero())
+        & same_latest(latest, OptionDigest::None)
+}
+
+// Whether a descriptor is all zeros and first variants.
+fn is_clear_descriptor(d: TournamentDescriptor) -> bool
+    ensures { λ r. ⌜ r ≡ isClearDescriptor d ⌝ }
+{
+    let address = d.address;
+    let kind = d.kind;
+    let initial_hash = d.initial_hash;
+    let base_cycle = d.base_cycle;
+    let nowhere = Address {
+        high: 0,
+        mid: 0,
+        low: 0,
+    };
+    address.equal(nowhere)
+        & is_leaf(kind)
+        & (d.level == 0)
+        & digest::equal(initial_hash, digest::zero())
+        & is_zero(base_cycle)
+        & (d.log2_stride == 0)
+        & (d.height == 0)
+}
+
+fn is_zero(x: U256) -> bool
+    ensures { λ r. ⌜ r ≡ isZero x ⌝ }
+{
+    (x.w0 == 0) & (x.w1 == 0) & (x.w2 == 0) & (x.w3 == 0)
+}
+
+fn is_leaf(kind: TournamentKind) -> bool
+    ensures { λ r. ⌜ r ≡ leafKind kind ⌝ }
+{
+    match kind {
+        TournamentKind::Leaf => true,
+        TournamentKind::NonLeaf => false,
+    }
+}

@@ -1,0 +1,3 @@
+-- Laws that only the proofs of this crate need: of routing, and of freeing.
+pub mod Routing
+pub mod Freeing
