@@ -1,5 +1,4 @@
 -- The round constants, listed, are those that the shift register gives: one test of the whole table. Assumes nothing.
-use mathlib.Core.Path.{_≡_}
 use mathlib.Core.Bool.{Bool, _&&_, Bool·beq}
 use mathlib.Core.List.{List, [], _∷_}
 use Prim.Native.Nat.{ℕ, _^_, _<_}
@@ -7,6 +6,7 @@ use lib.Dec.{T, ltb, ltb→lt}
 use lib.ListN.{getD}
 use Rattle.keccak.specs.Fips202.{RC, places, rc, register, shifted}
 use Rattle.keccak.specs.Sponge.{bit}
+use Rattle.keccak.specs.State.{IsRC}
 use Rattle.keccak.proofs.Bits.{every, below, beq-eq, and-l, and-r}
 
 unfoldable pub constants : List ℕ
@@ -26,9 +26,11 @@ all-right : T (every 24 right)
 unfolding constants right bit RC places rc register shifted
 all-right = tt
 
-pub constant-law : (i : ℕ) → i < 24 → (z : ℕ) → z < 64 → bit (getD constants i 0) z ≡ RC i z
+pub constant-law : (i : ℕ) → i < 24 → IsRC i (getD constants i 0)
 unfolding right
-constant-law i hi z hz = beq-eq _ _ (below 64 (same i) (and-r (ltb (getD constants i 0) (2 ^ 64)) (every 64 (same i)) (below 24 right all-right i hi)) z hz)
+constant-law i hi =
+    let t : T (every 64 (same i)) = and-r (ltb (getD constants i 0) (2 ^ 64)) (every 64 (same i)) (below 24 right all-right i hi) in
+    record { at = λ z hz. beq-eq _ _ (below 64 (same i) t z hz) }
 
 pub constant-lt : (i : ℕ) → i < 24 → getD constants i 0 < 2 ^ 64
 unfolding right

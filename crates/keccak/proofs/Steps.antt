@@ -8,9 +8,9 @@ use lib.Bits.{bitAnd, bitXor, xor-lt, or-lt, and-le-r}
 use lib.Dec.{eqb, lit<}
 use lib.ListN.{getD}
 use lib.Pow.{pow-pos}
-use Rattle.keccak.specs.Fips202.{StateArray, _⊕_, pick, back, C, D, θ, offset, ρ, π, χ, ι, RC}
+use Rattle.keccak.specs.Fips202.{StateArray, _⊕_, pick, back, C, D, θ, offset, ρ, π, χ, ι}
 use Rattle.keccak.specs.Sponge.{bit}
-use Rattle.keccak.specs.State.{lane, bits, Agree}
+use Rattle.keccak.specs.State.{lane, bits, Agree, IsRC}
 use Rattle.keccak.specs.Lanes.{row, rows, rotated, turned, column, spread, thetaLanes, rhoLanes, piLanes, chiLanes, iotaLanes}
 use Rattle.keccak.specs.Laws.{below5, at-row, lane-rows}
 use Rattle.keccak.proofs.Bits.{bit-xor, bit-and, bit-not, bit-rotated}
@@ -130,12 +130,12 @@ module _ (a : List (List ℕ)) (h : Bounded a) where
       (λ x y. xor-lt 64 _ _ (h x y) (lt-of-le-of-lt (and-le-r ((2 ^ 64 - 1) - lane a ((x + 1) % 5) y) (lane a ((x + 2) % 5) y)) (h ((x + 2) % 5) y)))
 
   -- 3.2.5
-  pub iota-law : (ir k : ℕ) → ((z : ℕ) → z < 64 → bit k z ≡ RC ir z) → Agree (bits (iotaLanes a k)) (ι ir (bits a))
+  pub iota-law : (ir k : ℕ) → IsRC ir k → Agree (bits (iotaLanes a k)) (ι ir (bits a))
   unfolding ι
   iota-law ir k e =
       rows-law _ (ι ir (bits a))
       (λ x y z hx hz. by-pick (eqb y 0 && eqb x 0) (bitXor (lane a x y) k) (lane a x y) z
-      (bit-xor (lane a x y) k z ∙ ap (λ (b : Bool). bits a x y z ⊕ b) (e z hz)))
+      (bit-xor (lane a x y) k z ∙ ap (λ (b : Bool). bits a x y z ⊕ b) (e .at z hz)))
     where
       by-pick : (t : Bool) (n m z : ℕ) {b : Bool} → bit n z ≡ b → bit (pick t n m) z ≡ pick t b (bit m z)
       by-pick true n m z p = p

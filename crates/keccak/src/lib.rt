@@ -2,29 +2,28 @@
 ghost use mathlib.Core.Path.{_≡_};
 ghost use Prim.Native.Nat.{ℕ, _<_};
 ghost use lib.ListN.{getD};
-ghost use Rattle.keccak.specs.Fips202.{θ, ρ, π, χ, ι, RC, Rnd, keccakF};
-ghost use Rattle.keccak.specs.Sponge.{bit};
-ghost use Rattle.keccak.specs.State.{bits, Agree};
+ghost use Rattle.keccak.specs.Fips202.{θ, ρ, π, χ, ι, Rnd, keccakF};
+ghost use Rattle.keccak.specs.State.{bits, Agree, IsRC};
 ghost use Rattle.keccak.specs.Lanes.{row, turned, column, spread, mixed, piLanes, chiLane, iotaLanes};
 
 // The permutation: 24 rounds (FIPS 202, 3.3).
 pub fn keccak_f(a: [[u64; 5]; 5]) -> [[u64; 5]; 5]
     ensures { λ r. ⌜ Agree (bits r) (keccakF (bits a)) ⌝ }
 {
+    let k = round_constants();
     let mut s = a;
     for i in 0..24 {
-        let t = round(s, i);
+        let t = round(s, k[i]);
         s = t;
     }
     s
 }
 
-// One round (3.3).
-fn round(a: [[u64; 5]; 5], i: usize) -> [[u64; 5]; 5]
-    requires { ⌜ i < 24 ⌝ }
-    ensures { λ r. ⌜ Agree (bits r) (Rnd i (bits a)) ⌝ }
+// The round whose constant is k (3.3).
+fn round(a: [[u64; 5]; 5], k: u64) -> [[u64; 5]; 5]
+    ensures { λ r. ⌜ ((ir : ℕ) → IsRC ir k → Agree (bits r) (Rnd ir (bits a))) ⌝ }
 {
-    iota(chi(pi(rho(theta(a)))), i)
+    iota(chi(pi(rho(theta(a)))), k)
 }
 
 // Each bit and the sums of two columns beside it (3.2.1).
@@ -68,12 +67,11 @@ fn chi(a: [[u64; 5]; 5]) -> [[u64; 5]; 5]
     ]
 }
 
-// The round constant in the first lane (3.2.5).
-fn iota(a: [[u64; 5]; 5], i: usize) -> [[u64; 5]; 5]
-    requires { ⌜ i < 24 ⌝ }
-    ensures { λ r. ⌜ Agree (bits r) (ι i (bits a)) ⌝ }
+// The constant k of a round in the first lane (3.2.5).
+fn iota(a: [[u64; 5]; 5], k: u64) -> [[u64; 5]; 5]
+    ensures { λ r. ⌜ ((ir : ℕ) → IsRC ir k → Agree (bits r) (ι ir (bits a))) ⌝ }
 {
-    iota_lanes(a, round_constant(i))
+    iota_lanes(a, k)
 }
 
 // The sums of the columns.
@@ -196,12 +194,11 @@ fn iota_lanes(a: [[u64; 5]; 5], k: u64) -> [[u64; 5]; 5]
     ]
 }
 
-// The lane RC of a round.
-fn round_constant(i: usize) -> u64
-    requires { ⌜ i < 24 ⌝ }
-    ensures { λ r. ⌜ ((z : ℕ) → z < 64 → bit r z ≡ RC i z) ⌝ }
+// The lanes RC of the 24 rounds. They are taken once, before the rounds: a table that is indexed is written out where it is indexed.
+fn round_constants() -> [u64; 24]
+    ensures { λ r. ⌜ ((ir : ℕ) → ir < 24 → IsRC ir (getD r ir 0)) ⌝ }
 {
-    ROUND[i]
+    ROUND
 }
 
 const ROUND: [u64; 24] = [

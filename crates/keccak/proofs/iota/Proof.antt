@@ -6,11 +6,10 @@ use Rattle.keccak.proofs.iota.Statement.{statement}
 use Rattle.keccak.proofs.iota.Tie as tie
 
 returns : tie.Need-returns
-returns c =
-    let start = c .before .before in
+returns c ir e =
+    let start = c .before in
     let good = start .good .0 in
-    let law = iota-law (start .args .a) (bounded (start .args .a) (good .0) 5 (good .1 .1)) (start .args .i) in
-    computed (c .iota-lanes .ensures) (law (c .before .round-constant .result) (c .before .round-constant .ensures))
+    computed (c .iota-lanes .ensures) (iota-law (start .args .a) (bounded (start .args .a) (good .0) 5 (good .1 .1)) ir (start .args .k) e)
 
 pub iota-spec : {M : Type 1} → statement M
-iota-spec = tie.close (tie.spec (λ c κs. search needs) (λ c κs. search needs) returns)
+iota-spec = tie.close (tie.spec (λ c κs. search needs) returns)

@@ -7,12 +7,12 @@ use Rattle.keccak.proofs.round.Tie as tie
 
 returns : tie.Need-returns
 unfolding Rnd
-returns c =
+returns c ir e =
     let p₁ = c .before .before .before .before .theta .ensures in
     let p₂ = agree-trans (c .before .before .before .rho .ensures) (ρ-same _ _ p₁) in
     let p₃ = agree-trans (c .before .before .pi .ensures) (π-same _ _ p₂) in
     let p₄ = agree-trans (c .before .chi .ensures) (χ-same _ _ p₃) in
-    agree-trans (c .iota .ensures) (ι-same _ _ p₄ (c .before .before .before .before .before .args .i))
+    agree-trans (c .iota .ensures ir e) (ι-same _ _ p₄ ir)
 
 pub round-spec : {M : Type 1} → statement M
 round-spec =
