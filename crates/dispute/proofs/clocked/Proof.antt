@@ -1,0 +1,19 @@
+-- `clocked` answers the row of a match that passes, and otherwise the refusal. Assumes nothing.
+use borrow.Author.Needs.{needs}
+use mathlib.Core.Path.{ap, sym, _∙_}
+use Rattle.dispute.specs.Change.{clockedOf}
+use Rattle.dispute.proofs.Ranges.{clocked-yes, clocked-no}
+use Rattle.dispute.proofs.clocked.Statement.{statement}
+use Rattle.dispute.proofs.clocked.Tie as tie
+
+returns : tie.Need-returns
+returns c = c .unknown-match .ensures ∙ ap (λ f. clockedOf f (c .before .before .before .args .a) (c .before .before .before .args .id-hash)) (sym (c .before .enum-told .given .1))
+
+returns-2 : tie.Need-returns-2
+returns-2 c = clocked-yes _ _ _ _ _ (c .before .before .before .found .given .1) (sym (c .before .is-clocked .ensures) ∙ c .if1 .taken)
+
+returns-3 : tie.Need-returns-3
+returns-3 c = clocked-no _ _ _ _ _ (c .before .before .before .found .given .1) (sym (c .before .is-clocked .ensures) ∙ c .if1 .left)
+
+pub clocked-spec : {M : Type 1} → statement M
+clocked-spec = tie.close (tie.spec (λ c. search needs) (λ c κs. search needs) (λ c. search needs) (λ c κs. search needs) returns returns-2 returns-3)
