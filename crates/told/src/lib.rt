@@ -1,0 +1,1 @@
+// The tree that the accepted events tell, and that the store holds exactly it: theorems alone, in specs/.
