@@ -8,11 +8,13 @@ use mathlib.Core.Logic.{_⊎_, inl, inr}
 use mathlib.Core.Bool.{Bool, true, false, not, cond, _&&_, _||_, and-true, and-false, and-assoc, or-false}
 use borrow.Author.Tests.{not-true, not-false, ne-eqb}
 use lib.Dec.{eqb}
-use lib.ListN.{length}
+use lib.ListN.{length, length-map}
+use mathlib.Core.List.{map}
 use Rattle.digest.specs.declared.Digest.{Digest}
 use Rattle.digest.specs.Digest.{sameDigest}
 use Rattle.domain.specs.declared.MatchID.{MatchID}
 use Rattle.domain.specs.declared.OptionDigest.{OptionDigest}
+use Rattle.domain.specs.declared.OptionDigest.the-variants.{Some}
 use Rattle.domain.specs.Values.{idHash}
 use Rattle.store.specs.declared.Store.{Store}
 use Rattle.store.specs.declared.TournamentRow.{TournamentRow}
@@ -27,7 +29,7 @@ use Rattle.store.specs.declared.MatchStatus.the-variants.{Free, Clocked, Leaf, 
 use Rattle.store.specs.Find.{childRow}
 use Rattle.store.specs.Laws.{far-tournament, far-match, far-commitment}
 use Rattle.sound.specs.Tests.{isEnd, rowOr, sameLatest}
-use Rattle.sound.specs.Sound.{meets, runs, rises, risesBy, rowFits, rowStands, commitmentIn, matchIn, latestFrom, laterOf, latestOf, bothJoined, matchJoined, commitmentLatest, childFits, childOrRoot, matchFits}
+use Rattle.sound.specs.Sound.{meets, runs, rises, risesBy, rowFits, rowStands, commitmentIn, matchIn, latestFrom, laterOf, namesRoot, latestOf, bothJoined, matchJoined, commitmentLatest, childFits, childOrRoot, matchFits}
 
 -- a link that is a row's number
 pub row-at : (n : ℕ) (l : Link) (j : ℕ) → j ≡ rowOr n l → j < n → l ≡ At j
@@ -85,6 +87,15 @@ pub record Sized (s : Store) : Type 0 where
   pub tournaments : length (s .tournaments) ≡ 32
   pub matches : length (s .matches) ≡ 128
   pub commitments : length (s .commitments) ≡ 256
+
+-- what the store's type says of its arrays
+pub sized : {A B C : Type 0} (s : Store) (f : TournamentRow → A) (g : MatchRow → B) (h : CommitmentRow → C)
+    → length (map f (s .tournaments)) ≡ 32 → length (map g (s .matches)) ≡ 128 → length (map h (s .commitments)) ≡ 256 → Sized s
+sized s f g h a b c = record {
+  tournaments = sym (length-map (s .tournaments) f) ∙ a;
+  matches = sym (length-map (s .matches) g) ∙ b;
+  commitments = sym (length-map (s .commitments) h) ∙ c;
+}
 
 -- rows past the last: they lead nowhere and pass no test
 module _ (s : Store) (z : Sized s) (j : ℕ) where
@@ -276,6 +287,13 @@ module _ (s : Store) (i : ℕ) where
   pub latest-told : (v : OptionDigest) (b : Bool) → usedCommitment s i ≡ true → v ≡ latestOf s (commitmentAt s i .tournament) (commitmentAt s i .root)
       → b ≡ sameLatest v (commitmentAt s i .«latest_match») → commitmentLatest s i ≡ (usedTournament s (commitmentAt s i .tournament) && b)
   latest-told v b e f g = rw (e, g, f)
+
+-- a match that names the commitment, and one that does not
+pub later-named : (m : MatchRow) (root : Digest) (v r : OptionDigest) → namesRoot m root ≡ true → r ≡ Some (m .«id_hash») → r ≡ laterOf m root v
+later-named m root v r e q = rw e q
+
+pub later-other : (m : MatchRow) (root : Digest) (v r : OptionDigest) → namesRoot m root ≡ false → r ≡ v → r ≡ laterOf m root v
+later-other m root v r e q = rw e q
 
 -- A loop that keeps `latestFrom s root k l v ≡ x`.
 module _ (s : Store) (root : Digest) where

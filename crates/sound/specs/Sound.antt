@@ -20,7 +20,7 @@ use Rattle.store.specs.Rows.{tournamentAt, matchAt, commitmentAt, freeStatus, c
 use Rattle.store.specs.Scan.{allAt}
 use Rattle.store.specs.Chain.{nextMatch, nextCommitment, hasRoot}
 use Rattle.store.specs.Find.{childRow}
-use Rattle.sound.specs.Tests.{isEnd, sameLatest, descriptorOk, isClearTournament, isClearMatch, isClearCommitment}
+use Rattle.sound.specs.Tests.{sameLatest, descriptorOk, isClearTournament, isClearMatch, isClearCommitment}
 
 -- Walks along a chain, `nx` giving the next link.
 

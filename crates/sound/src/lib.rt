@@ -20,7 +20,7 @@ ghost use mathlib.Core.Bool.{true, not};
 ghost use Rattle.store.specs.Rows.{freeStatus};
 ghost use Rattle.store.specs.Scan.{allAt};
 ghost use Rattle.sound.specs.Tests.{isEnd, rowOr, sameLatest, leafKind, descriptorOk, isZero, isClearDescriptor, isClearTournament, isClearMatch, isClearCommitment};
-ghost use Rattle.sound.specs.Sound.{rowFits, fitsRow, tournamentRises, chained, commitmentReached, commitmentLatest, matchJoined, matchReached, namesRoot, laterOf, matchFits, childFits, childOrRoot, soundRows};
+ghost use Rattle.sound.specs.Sound.{rowFits, fitsRow, tournamentRises, chained, commitmentReached, commitmentLatest, matchJoined, matchReached, namesRoot, matchFits, childFits, childOrRoot, soundRows};
 
 // Whether the store is sound. Every public entry over a store, except opening, answers 61 where it is not.
 pub fn sound(s: Store) -> bool
@@ -169,8 +169,7 @@ fn commitments_reached(s: Store) -> bool
                 continue 'rows;
             }
             let other = s.commitments[j];
-            let other_root = other.root;
-            if digest::equal(other_root, root) {
+            if digest::equal(other.root, root) {
                 return false;
             }
             l = other.next;
@@ -207,7 +206,10 @@ fn latest_right(s: Store) -> bool
                 break;
             }
             let match_ = s.matches[j];
-            latest = later(match_, root, latest);
+            if names(match_, root) {
+                let id_hash = match_.id_hash;
+                latest = OptionDigest::Some(id_hash);
+            }
             l = match_.next;
             k -= 1;
         }
@@ -301,8 +303,7 @@ fn matches_reached(s: Store) -> bool
                 continue 'rows;
             }
             let other = s.matches[j];
-            let other_hash = other.id_hash;
-            if !clocked & digest::equal(other_hash, id_hash) {
+            if !clocked & digest::equal(other.id_hash, id_hash) {
                 return false;
             }
             l = other.next;
@@ -390,18 +391,6 @@ fn child_or_root(status: MatchStatus) -> usize
             reason: _,
             winner: _,
         } => 0,
-    }
-}
-
-// The latest match of the commitment with that root once `row` is created, `latest` before.
-fn later(row: MatchRow, root: Digest, latest: OptionDigest) -> OptionDigest
-    ensures { λ r. ⌜ r ≡ laterOf row root latest ⌝ }
-{
-    if names(row, root) {
-        let id_hash = row.id_hash;
-        OptionDigest::Some(id_hash)
-    } else {
-        latest
     }
 }
 

@@ -1,7 +1,7 @@
 -- The routing order: "root first, then depth first in match order, first equal address wins" (document 01, "What crosses over").
 -- Whatever goes through the tree in this order goes through `places`. Assumes nothing: these are definitions.
 use Prim.Native.Nat.{ℕ, zero, suc}
-use mathlib.Core.Bool.{Bool, cond, _&&_}
+use mathlib.Core.Bool.{cond, _&&_}
 use mathlib.Core.List.{List, [], _∷_}
 use lib.Dec.{ltb}
 use lib.ListN.{length}

@@ -1,21 +1,19 @@
 -- `chains_hold` walks both chains of every tournament. Each inner loop keeps what the rest of its chain answers. Assumes nothing.
 use borrow.Author.Needs.{needs}
-use borrow.Author.Tests.{not-true, not-false, eq-eqb, ne-eqb}
-use Prim.Native.Nat.{ℕ, _≤_, _<_, _-_, _+_}
+use borrow.Author.Tests.{not-true, not-false}
+use Prim.Native.Nat.{_≤_, _-_}
 use native.Mathlib.Omega.{arith}
 use mathlib.Core.Path.{_≡_, refl, ap, ap₂, _∙_, sym}
 use mathlib.Core.Logic.{⊎-elim, inl, inr}
-use mathlib.Core.Bool.{true, false, not, _&&_, _||_, and-true}
+use mathlib.Core.Bool.{true, not, _&&_, and-true}
 use lib.Dec.{eqb}
-use lib.ListN.{length-map}
-use Rattle.store.specs.Rows.{tournamentAt, matchAt, commitmentAt, sameLink, freeStatus, usedTournament}
+use Rattle.store.specs.Rows.{matchAt, sameLink}
 use Rattle.store.specs.Scan.{allAt}
-use Rattle.store.specs.Chain.{nextMatch, nextCommitment, hasRoot}
+use Rattle.store.specs.Chain.{nextMatch, nextCommitment}
 use Rattle.store.specs.Laws.{all-end, all-on, all-not}
 use Rattle.store.specs.declared.Link.the-variants.{End, At}
-use Rattle.sound.specs.Tests.{isEnd, rowOr}
 use Rattle.sound.specs.Sound.{chained, commitmentsChained, matchesChained, commitmentIn, matchIn, runs}
-use Rattle.sound.specs.Laws.{Sized, row-at, told-not, told-so, no-left, no-right, both-hold, runs-not, runs-on, runs-stop, past-commitment-in, past-match-in}
+use Rattle.sound.specs.Laws.{Sized, sized, row-at, told-not, told-so, no-left, no-right, both-hold, runs-not, runs-on, runs-stop, past-commitment-in, past-match-in}
 use Rattle.sound.proofs.chains_hold.Statement.{statement}
 use Rattle.sound.proofs.chains_hold.Tie as tie
 
@@ -39,15 +37,7 @@ abbrev μ-loop : tie.MeasureT-loop
 μ-loop s n₀ n = 32 - n
 
 loop-holds : tie.Need-loop-holds Inv-loop2 μ-loop2 Inv-loop3 μ-loop3 Inv-loop μ-loop
-loop-holds c = (
-  record {
-    tournaments = sym (length-map (c .args .t1 .tournaments) _) ∙ c .good .0 .1 .1 .0 .1 .0 .1;
-    matches = sym (length-map (c .args .t1 .matches) _) ∙ c .good .0 .1 .1 .1 .0 .1 .0 .1;
-    commitments = sym (length-map (c .args .t1 .commitments) _) ∙ c .good .0 .1 .1 .1 .1 .0 .1 .0 .1;
-  },
-  omega arith,
-  refl,
-)
+loop-holds c = (sized (c .args .t1) _ _ _ (c .good .0 .1 .1 .0 .1 .0 .1) (c .good .0 .1 .1 .1 .0 .1 .0 .1) (c .good .0 .1 .1 .1 .1 .0 .1 .0 .1), omega arith, refl)
 
 returns : tie.Need-returns Inv-loop2 μ-loop2 Inv-loop3 μ-loop3 Inv-loop μ-loop
 returns c =

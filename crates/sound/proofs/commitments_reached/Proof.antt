@@ -1,22 +1,17 @@
 -- `commitments_reached` tests every commitment's row. The inner loop keeps whether the chain still meets the row. Assumes nothing.
 use borrow.Author.Needs.{needs}
 use borrow.Author.Tests.{not-true, not-false, eq-eqb, ne-eqb}
-use Prim.Native.Nat.{ℕ, _≤_, _<_, _-_, _+_}
+use Prim.Native.Nat.{_≤_, _-_}
 use native.Mathlib.Omega.{arith}
-use mathlib.Core.Path.{_≡_, refl, ap, ap₂, _∙_, sym}
-use mathlib.Core.Logic.{⊎-elim, inl, inr}
-use mathlib.Core.Bool.{true, false, not, _&&_, _||_, and-true}
+use mathlib.Core.Path.{_≡_, refl, _∙_, sym}
 use lib.Dec.{eqb}
-use lib.ListN.{length-map}
-use Rattle.store.specs.Rows.{tournamentAt, matchAt, commitmentAt, sameLink, freeStatus, usedTournament}
+use Rattle.store.specs.Rows.{commitmentAt}
 use Rattle.store.specs.Scan.{allAt}
-use Rattle.store.specs.Chain.{nextMatch, nextCommitment, hasRoot}
+use Rattle.store.specs.Chain.{nextCommitment}
 use Rattle.store.specs.Laws.{all-end, all-on, all-not}
-use Rattle.store.specs.declared.Link.the-variants.{End, At}
 use Rattle.digest.specs.Digest.{sameDigest}
-use Rattle.sound.specs.Tests.{isEnd, rowOr}
 use Rattle.sound.specs.Sound.{commitmentReached, meets}
-use Rattle.sound.specs.Laws.{Sized, row-at, stands-unfit, stands-free, stands-fit, meets-out, meets-end, meets-here, meets-bad, meets-on, meets-past, past-commitment, past-commitments}
+use Rattle.sound.specs.Laws.{Sized, sized, row-at, stands-unfit, stands-free, stands-fit, meets-out, meets-end, meets-here, meets-bad, meets-on, meets-past, past-commitment, past-commitments}
 use Rattle.sound.proofs.commitments_reached.Statement.{statement}
 use Rattle.sound.proofs.commitments_reached.Tie as tie
 
@@ -34,15 +29,7 @@ abbrev μ-rows : tie.MeasureT-rows
 μ-rows s n₀ n = 256 - n
 
 rows-holds : tie.Need-rows-holds Inv-loop μ-loop Inv-rows μ-rows
-rows-holds c = (
-  record {
-    tournaments = sym (length-map (c .args .t1 .tournaments) _) ∙ c .good .0 .1 .1 .0 .1 .0 .1;
-    matches = sym (length-map (c .args .t1 .matches) _) ∙ c .good .0 .1 .1 .1 .0 .1 .0 .1;
-    commitments = sym (length-map (c .args .t1 .commitments) _) ∙ c .good .0 .1 .1 .1 .1 .0 .1 .0 .1;
-  },
-  omega arith,
-  refl,
-)
+rows-holds c = (sized (c .args .t1) _ _ _ (c .good .0 .1 .1 .0 .1 .0 .1) (c .good .0 .1 .1 .1 .0 .1 .0 .1) (c .good .0 .1 .1 .1 .1 .0 .1 .0 .1), omega arith, refl)
 
 returns : tie.Need-returns Inv-loop μ-loop Inv-rows μ-rows
 returns c = all-not _ _ 256 _ (c .before .before .before .before .rows .inv .2) (c .before .before .before .rows-test .taken) (stands-unfit _ _ _ _ _ (c .before .commitment-fits .ensures) (c .if1 .taken))
@@ -70,11 +57,11 @@ rows-again-2 c =
 
 returns-4 : tie.Need-returns-4 Inv-loop μ-loop Inv-rows μ-rows
 returns-4 c =
-    all-not _ _ 256 _ (c .before .before .before .before .before .before .before .before .before .before .before .before .before .before .before .before .before .before .rows .inv .2) (c .before .before .before .before .before .before .before .before .before .before .before .before .before .before .before .before .before .rows-test .taken)
-    (sym (meets-bad _ _ _ _ _ _ _ (c .before .before .before .before .before .before .before .before .loop .inv) (c .before .before .before .before .before .before .before .loop-test .taken) (row-at 256 _ _ (c .before .before .before .before .before .before .row-of .ensures) (c .before .before .before .before .before .if4 .left)) (ne-eqb _ _ (c .before .before .before .before .if5 .left)) (sym (c .before .equal .ensures) ∙ c .if6 .taken)))
+    all-not _ _ 256 _ (c .before .before .before .before .before .before .before .before .before .before .before .before .before .before .before .before .before .rows .inv .2) (c .before .before .before .before .before .before .before .before .before .before .before .before .before .before .before .before .rows-test .taken)
+    (sym (meets-bad _ _ _ _ _ _ _ (c .before .before .before .before .before .before .before .loop .inv) (c .before .before .before .before .before .before .loop-test .taken) (row-at 256 _ _ (c .before .before .before .before .before .row-of .ensures) (c .before .before .before .before .if4 .left)) (ne-eqb _ _ (c .before .before .before .if5 .left)) (sym (c .before .equal .ensures) ∙ c .if6 .taken)))
 
 loop-again : tie.Need-loop-again Inv-loop μ-loop Inv-rows μ-rows
-loop-again c = meets-on _ _ _ _ _ _ _ (c .before .before .before .before .before .before .before .before .loop .inv) (c .before .before .before .before .before .before .before .loop-test .taken) (row-at 256 _ _ (c .before .before .before .before .before .before .row-of .ensures) (c .before .before .before .before .before .if4 .left)) (ne-eqb _ _ (c .before .before .before .before .if5 .left)) (sym (c .before .equal .ensures) ∙ c .if6 .left)
+loop-again c = meets-on _ _ _ _ _ _ _ (c .before .before .before .before .before .before .before .loop .inv) (c .before .before .before .before .before .before .loop-test .taken) (row-at 256 _ _ (c .before .before .before .before .before .row-of .ensures) (c .before .before .before .before .if4 .left)) (ne-eqb _ _ (c .before .before .before .if5 .left)) (sym (c .before .equal .ensures) ∙ c .if6 .left)
 
 returns-5 : tie.Need-returns-5 Inv-loop μ-loop Inv-rows μ-rows
 returns-5 c = all-not _ _ 256 _ (c .before .before .before .before .before .before .before .before .before .before .before .rows .inv .2) (c .before .before .before .before .before .before .before .before .before .before .rows-test .taken) (sym (meets-out _ _ _ _ _ _ (c .before .loop .inv) (omega arith)))

@@ -1,5 +1,4 @@
 -- `is_zero` answers whether a number is 0. Assumes nothing.
-use borrow.Author.Needs.{needs}
 use Rattle.sound.specs.Tests.{isZero}
 use Rattle.sound.proofs.is_zero.Statement.{statement}
 use Rattle.sound.proofs.is_zero.Tie as tie

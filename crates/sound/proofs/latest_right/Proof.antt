@@ -1,21 +1,15 @@
 -- `latest_right` tests the latest match of every commitment. The inner loop keeps what the matches still to come leave. Assumes nothing.
 use borrow.Author.Needs.{needs}
-use borrow.Author.Tests.{not-true, not-false, eq-eqb, ne-eqb}
-use Prim.Native.Nat.{ℕ, _≤_, _<_, _-_, _+_}
+use borrow.Author.Tests.{not-true, not-false}
+use Prim.Native.Nat.{_≤_, _-_}
 use native.Mathlib.Omega.{arith}
-use mathlib.Core.Path.{_≡_, refl, ap, ap₂, _∙_, sym}
+use mathlib.Core.Path.{_≡_, refl, _∙_, sym}
 use mathlib.Core.Logic.{⊎-elim, inl, inr}
-use mathlib.Core.Bool.{true, false, not, _&&_, _||_, and-true}
-use lib.Dec.{eqb}
-use lib.ListN.{length-map}
-use Rattle.store.specs.Rows.{tournamentAt, matchAt, commitmentAt, sameLink, freeStatus, usedTournament}
+use Rattle.store.specs.Rows.{matchAt}
 use Rattle.store.specs.Scan.{allAt}
-use Rattle.store.specs.Chain.{nextMatch, nextCommitment, hasRoot}
 use Rattle.store.specs.Laws.{all-end, all-on, all-not}
-use Rattle.store.specs.declared.Link.the-variants.{End, At}
-use Rattle.sound.specs.Tests.{isEnd, rowOr}
 use Rattle.sound.specs.Sound.{commitmentLatest, latestFrom, latestOf}
-use Rattle.sound.specs.Laws.{Sized, row-at, latest-free, latest-told, latest-far, latest-on, latest-stop}
+use Rattle.sound.specs.Laws.{Sized, sized, row-at, latest-free, latest-told, latest-far, later-named, later-other, latest-on, latest-stop}
 use Rattle.sound.proofs.latest_right.Statement.{statement}
 use Rattle.sound.proofs.latest_right.Tie as tie
 
@@ -32,15 +26,7 @@ abbrev μ-loop : tie.MeasureT-loop
 μ-loop s n₀ n = 256 - n
 
 loop-holds : tie.Need-loop-holds Inv-loop2 μ-loop2 Inv-loop μ-loop
-loop-holds c = (
-  record {
-    tournaments = sym (length-map (c .args .t1 .tournaments) _) ∙ c .good .0 .1 .1 .0 .1 .0 .1;
-    matches = sym (length-map (c .args .t1 .matches) _) ∙ c .good .0 .1 .1 .1 .0 .1 .0 .1;
-    commitments = sym (length-map (c .args .t1 .commitments) _) ∙ c .good .0 .1 .1 .1 .1 .0 .1 .0 .1;
-  },
-  omega arith,
-  refl,
-)
+loop-holds c = (sized (c .args .t1) _ _ _ (c .good .0 .1 .1 .0 .1 .0 .1) (c .good .0 .1 .1 .1 .0 .1 .0 .1) (c .good .0 .1 .1 .1 .1 .0 .1 .0 .1), omega arith, refl)
 
 loop-again : tie.Need-loop-again Inv-loop2 μ-loop2 Inv-loop μ-loop
 loop-again c = (c .before .before .before .before .loop .inv .0, omega arith, all-on _ _ 256 _ (c .before .before .before .before .loop .inv .2) (c .before .before .before .loop-test .taken) (latest-free (c .before .before .before .before .before .args .t1) (c .before .before .before .before .loop .i) (not-true _ (c .if1 .taken))))
@@ -50,7 +36,11 @@ returns c = all-not _ _ 256 _ (c .before .before .before .before .before .before
 
 loop2-again : tie.Need-loop2-again Inv-loop2 μ-loop2 Inv-loop μ-loop
 loop2-again c =
-    latest-on _ _ _ _ _ _ _ _ (c .before .before .before .before .before .loop2 .inv) (c .before .before .before .before .loop2-test .taken) (row-at 128 _ _ (c .before .before .before .row-of .ensures) (c .before .before .if3 .left)) (c .later .ensures)
+    latest-on _ _ _ _ _ _ _ _ (c .before .before .before .before .before .before .loop2 .inv) (c .before .before .before .before .before .loop2-test .taken) (row-at 128 _ _ (c .before .before .before .before .row-of .ensures) (c .before .before .before .if3 .left))
+    (⊎-elim
+    (λ w. later-named (matchAt (c .before .before .before .before .before .before .before .before .before .before .before .before .before .before .before .args .t1) (c .before .before .before .before .row-of .result)) _ _ _ (sym (c .before .names .ensures) ∙ w .0 .taken) (w .2))
+    (λ w. later-other (matchAt (c .before .before .before .before .before .before .before .before .before .before .before .before .before .before .before .args .t1) (c .before .before .before .before .row-of .result)) _ _ _ (sym (c .before .names .ensures) ∙ w .0 .left) (w .1))
+    (c .if4 .came))
 
 returns-2 : tie.Need-returns-2 Inv-loop2 μ-loop2 Inv-loop μ-loop
 returns-2 c =
@@ -59,7 +49,7 @@ returns-2 c =
     (latest-stop _ _ _ _ _ _ (c .before .before .before .before .loop2 .inv) (c .before .before .before .before .before .before .before .before .before .before .before .before .loop .inv .0)
     (⊎-elim (λ w. inl (omega (arith, w .left))) (λ w. inr (omega (arith, w .1 .ensures, w .2 .taken))) (c .before .before .before .loop2-test .came)))
     (c .before .before .same-latest .ensures)
-    ∙ not-true _ (c .if4 .taken))
+    ∙ not-true _ (c .if5 .taken))
 
 loop-again-2 : tie.Need-loop-again-2 Inv-loop2 μ-loop2 Inv-loop μ-loop
 loop-again-2 c = (
@@ -70,7 +60,7 @@ loop-again-2 c = (
       (latest-stop _ _ _ _ _ _ (c .before .before .before .before .loop2 .inv) (c .before .before .before .before .before .before .before .before .before .before .before .before .loop .inv .0)
       (⊎-elim (λ w. inl (omega (arith, w .left))) (λ w. inr (omega (arith, w .1 .ensures, w .2 .taken))) (c .before .before .before .loop2-test .came)))
       (c .before .before .same-latest .ensures)
-      ∙ not-false _ (c .if4 .left)),
+      ∙ not-false _ (c .if5 .left)),
 )
 
 returns-3 : tie.Need-returns-3 Inv-loop2 μ-loop2 Inv-loop μ-loop

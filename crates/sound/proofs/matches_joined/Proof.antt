@@ -1,21 +1,14 @@
 -- `matches_joined` tests both commitments of every match. The inner loop keeps what two walks at once still answer. Assumes nothing.
 use borrow.Author.Needs.{needs}
-use borrow.Author.Tests.{not-true, not-false, eq-eqb, ne-eqb}
-use Prim.Native.Nat.{ℕ, _≤_, _<_, _-_, _+_}
+use Prim.Native.Nat.{_≤_, _-_}
 use native.Mathlib.Omega.{arith}
-use mathlib.Core.Path.{_≡_, refl, ap, ap₂, _∙_, sym}
-use mathlib.Core.Logic.{⊎-elim, inl, inr}
-use mathlib.Core.Bool.{true, false, not, _&&_, _||_, and-true}
-use lib.Dec.{eqb}
-use lib.ListN.{length-map}
-use Rattle.store.specs.Rows.{tournamentAt, matchAt, commitmentAt, sameLink, freeStatus, usedTournament}
+use mathlib.Core.Path.{_≡_, refl, _∙_, sym}
+use mathlib.Core.Logic.{inl, inr}
+use mathlib.Core.Bool.{false, _&&_}
 use Rattle.store.specs.Scan.{allAt}
-use Rattle.store.specs.Chain.{nextMatch, nextCommitment, hasRoot}
 use Rattle.store.specs.Laws.{all-end, all-on, all-not}
-use Rattle.store.specs.declared.Link.the-variants.{End, At}
-use Rattle.sound.specs.Tests.{isEnd, rowOr}
 use Rattle.sound.specs.Sound.{matchJoined, bothJoined}
-use Rattle.sound.specs.Laws.{Sized, row-at, no-left, joined-free, joined-used, meets-end, seenBoth, both-starts, both-on, both-met, both-stop, past-commitments}
+use Rattle.sound.specs.Laws.{Sized, sized, row-at, no-left, joined-free, joined-used, meets-end, seenBoth, both-starts, both-on, both-met, both-stop, past-commitments}
 use Rattle.sound.proofs.matches_joined.Statement.{statement}
 use Rattle.sound.proofs.matches_joined.Tie as tie
 
@@ -32,15 +25,7 @@ abbrev μ-rows : tie.MeasureT-rows
 μ-rows s n₀ n = 128 - n
 
 rows-holds : tie.Need-rows-holds Inv-loop μ-loop Inv-rows μ-rows
-rows-holds c = (
-  record {
-    tournaments = sym (length-map (c .args .t1 .tournaments) _) ∙ c .good .0 .1 .1 .0 .1 .0 .1;
-    matches = sym (length-map (c .args .t1 .matches) _) ∙ c .good .0 .1 .1 .1 .0 .1 .0 .1;
-    commitments = sym (length-map (c .args .t1 .commitments) _) ∙ c .good .0 .1 .1 .1 .1 .0 .1 .0 .1;
-  },
-  omega arith,
-  refl,
-)
+rows-holds c = (sized (c .args .t1) _ _ _ (c .good .0 .1 .1 .0 .1 .0 .1) (c .good .0 .1 .1 .1 .0 .1 .0 .1) (c .good .0 .1 .1 .1 .1 .0 .1 .0 .1), omega arith, refl)
 
 rows-again : tie.Need-rows-again Inv-loop μ-loop Inv-rows μ-rows
 rows-again c = (c .before .before .before .before .rows .inv .0, omega arith, all-on _ _ 128 _ (c .before .before .before .before .rows .inv .2) (c .before .before .before .rows-test .taken) (joined-free (c .before .before .before .before .before .args .t1) (c .before .before .before .before .rows .n) (sym (c .before .is-free .ensures) ∙ c .if1 .taken)))

@@ -1,22 +1,18 @@
 -- `matches_reached` tests every match's row. The inner loop keeps whether the chain still meets the row. Assumes nothing.
 use borrow.Author.Needs.{needs}
-use borrow.Author.Tests.{not-true, not-false, eq-eqb, ne-eqb}
-use Prim.Native.Nat.{ℕ, _≤_, _<_, _-_, _+_}
+use borrow.Author.Tests.{eq-eqb, ne-eqb}
+use Prim.Native.Nat.{_≤_, _-_}
 use native.Mathlib.Omega.{arith}
-use mathlib.Core.Path.{_≡_, refl, ap, ap₂, _∙_, sym}
-use mathlib.Core.Logic.{⊎-elim, inl, inr}
-use mathlib.Core.Bool.{true, false, not, _&&_, _||_, and-true}
+use mathlib.Core.Path.{_≡_, refl, ap, _∙_, sym}
+use mathlib.Core.Bool.{not, _&&_}
 use lib.Dec.{eqb}
-use lib.ListN.{length-map}
-use Rattle.store.specs.Rows.{tournamentAt, matchAt, commitmentAt, sameLink, freeStatus, usedTournament}
+use Rattle.store.specs.Rows.{tournamentAt, matchAt}
 use Rattle.store.specs.Scan.{allAt}
-use Rattle.store.specs.Chain.{nextMatch, nextCommitment, hasRoot}
+use Rattle.store.specs.Chain.{nextMatch}
 use Rattle.store.specs.Laws.{all-end, all-on, all-not}
-use Rattle.store.specs.declared.Link.the-variants.{End, At}
 use Rattle.digest.specs.Digest.{sameDigest}
-use Rattle.sound.specs.Tests.{isEnd, rowOr}
 use Rattle.sound.specs.Sound.{matchReached, meets}
-use Rattle.sound.specs.Laws.{Sized, row-at, stands-unfit, stands-free, stands-fit, child-far, fits-child, meets-out, meets-end, meets-here, meets-bad, meets-on, meets-past, past-match, past-matches}
+use Rattle.sound.specs.Laws.{Sized, sized, row-at, stands-unfit, stands-free, stands-fit, child-far, fits-child, meets-out, meets-end, meets-here, meets-bad, meets-on, meets-past, past-match, past-matches}
 use Rattle.sound.proofs.matches_reached.Statement.{statement}
 use Rattle.sound.proofs.matches_reached.Tie as tie
 
@@ -34,15 +30,7 @@ abbrev μ-rows : tie.MeasureT-rows
 μ-rows s n₀ n = 128 - n
 
 rows-holds : tie.Need-rows-holds Inv-loop μ-loop Inv-rows μ-rows
-rows-holds c = (
-  record {
-    tournaments = sym (length-map (c .args .t1 .tournaments) _) ∙ c .good .0 .1 .1 .0 .1 .0 .1;
-    matches = sym (length-map (c .args .t1 .matches) _) ∙ c .good .0 .1 .1 .1 .0 .1 .0 .1;
-    commitments = sym (length-map (c .args .t1 .commitments) _) ∙ c .good .0 .1 .1 .1 .1 .0 .1 .0 .1;
-  },
-  omega arith,
-  refl,
-)
+rows-holds c = (sized (c .args .t1) _ _ _ (c .good .0 .1 .1 .0 .1 .0 .1) (c .good .0 .1 .1 .1 .0 .1 .0 .1) (c .good .0 .1 .1 .1 .1 .0 .1 .0 .1), omega arith, refl)
 
 returns : tie.Need-returns Inv-loop μ-loop Inv-rows μ-rows
 returns c = all-not _ _ 128 _ (c .before .before .before .before .rows .inv .2) (c .before .before .before .rows-test .taken) (child-far (c .before .before .before .before .before .args .t1) (matchAt (c .before .before .before .before .before .args .t1) (c .before .before .before .before .rows .n)) _ _ (c .before .child-or-root .ensures) _ _ (c .before .before .before .before .rows .inv .0) (c .if1 .taken))
@@ -76,12 +64,12 @@ rows-again-2 c =
 
 returns-5 : tie.Need-returns-5 Inv-loop μ-loop Inv-rows μ-rows
 returns-5 c =
-    all-not _ _ 128 _ (c .before .before .before .before .before .before .before .before .before .before .before .before .before .before .before .before .before .before .before .before .before .before .rows .inv .2) (c .before .before .before .before .before .before .before .before .before .before .before .before .before .before .before .before .before .before .before .before .before .rows-test .taken)
-    (sym (meets-bad _ _ _ _ _ _ _ (c .before .before .before .before .before .before .before .before .loop .inv) (c .before .before .before .before .before .before .before .loop-test .taken) (row-at 128 _ _ (c .before .before .before .before .before .before .row-of .ensures) (c .before .before .before .before .before .if5 .left)) (ne-eqb _ _ (c .before .before .before .before .if6 .left)) (ap (λ b. not (c .before .before .before .before .before .before .before .before .before .before .before .is-clocked .result) && b) (sym (c .before .equal .ensures)) ∙ c .if7 .taken)))
+    all-not _ _ 128 _ (c .before .before .before .before .before .before .before .before .before .before .before .before .before .before .before .before .before .before .before .before .before .rows .inv .2) (c .before .before .before .before .before .before .before .before .before .before .before .before .before .before .before .before .before .before .before .before .rows-test .taken)
+    (sym (meets-bad _ _ _ _ _ _ _ (c .before .before .before .before .before .before .before .loop .inv) (c .before .before .before .before .before .before .loop-test .taken) (row-at 128 _ _ (c .before .before .before .before .before .row-of .ensures) (c .before .before .before .before .if5 .left)) (ne-eqb _ _ (c .before .before .before .if6 .left)) (ap (λ b. not (c .before .before .before .before .before .before .before .before .before .before .is-clocked .result) && b) (sym (c .before .equal .ensures)) ∙ c .if7 .taken)))
 
 loop-again : tie.Need-loop-again Inv-loop μ-loop Inv-rows μ-rows
 loop-again c =
-    meets-on _ _ _ _ _ _ _ (c .before .before .before .before .before .before .before .before .loop .inv) (c .before .before .before .before .before .before .before .loop-test .taken) (row-at 128 _ _ (c .before .before .before .before .before .before .row-of .ensures) (c .before .before .before .before .before .if5 .left)) (ne-eqb _ _ (c .before .before .before .before .if6 .left)) (ap (λ b. not (c .before .before .before .before .before .before .before .before .before .before .before .is-clocked .result) && b) (sym (c .before .equal .ensures)) ∙ c .if7 .left)
+    meets-on _ _ _ _ _ _ _ (c .before .before .before .before .before .before .before .loop .inv) (c .before .before .before .before .before .before .loop-test .taken) (row-at 128 _ _ (c .before .before .before .before .before .row-of .ensures) (c .before .before .before .before .if5 .left)) (ne-eqb _ _ (c .before .before .before .if6 .left)) (ap (λ b. not (c .before .before .before .before .before .before .before .before .before .before .is-clocked .result) && b) (sym (c .before .equal .ensures)) ∙ c .if7 .left)
 
 returns-6 : tie.Need-returns-6 Inv-loop μ-loop Inv-rows μ-rows
 returns-6 c = all-not _ _ 128 _ (c .before .before .before .before .before .before .before .before .before .before .before .before .before .before .before .rows .inv .2) (c .before .before .before .before .before .before .before .before .before .before .before .before .before .before .rows-test .taken) (sym (meets-out _ _ _ _ _ _ (c .before .loop .inv) (omega arith)))

@@ -1,11 +1,10 @@
 -- `sound` answers whether the store is sound. Assumes nothing.
 use borrow.Author.Needs.{needs}
-use borrow.Author.Tests.{not-true, not-false}
-use mathlib.Core.Path.{_≡_, _∙_, sym}
+use mathlib.Core.Path.{_≡_}
 use mathlib.Core.Bool.{true, false}
 use Rattle.store.specs.Scan.{allAt}
 use Rattle.sound.specs.Laws.{told-not, told-so}
-use Rattle.sound.specs.Sound.{soundRows, tournamentRises, chained, commitmentReached, commitmentLatest, matchJoined, matchReached}
+use Rattle.sound.specs.Sound.{soundRows, tournamentRises, chained, commitmentReached, commitmentLatest, matchJoined}
 use Rattle.sound.proofs.sound.Statement.{statement}
 use Rattle.sound.proofs.sound.Tie as tie
 

@@ -1,21 +1,13 @@
 -- `tournaments_rise` tests every tournament's row. The inner loop keeps what the rise still answers. Assumes nothing.
 use borrow.Author.Needs.{needs}
-use borrow.Author.Tests.{not-true, not-false, eq-eqb, ne-eqb}
-use Prim.Native.Nat.{ℕ, _≤_, _<_, _-_, _+_}
+use borrow.Author.Tests.{not-true, not-false}
+use Prim.Native.Nat.{_≤_, _-_}
 use native.Mathlib.Omega.{arith}
-use mathlib.Core.Path.{_≡_, refl, ap, ap₂, _∙_, sym}
-use mathlib.Core.Logic.{⊎-elim, inl, inr}
-use mathlib.Core.Bool.{true, false, not, _&&_, _||_, and-true}
-use lib.Dec.{eqb}
-use lib.ListN.{length-map}
-use Rattle.store.specs.Rows.{tournamentAt, matchAt, commitmentAt, sameLink, freeStatus, usedTournament}
+use mathlib.Core.Path.{_≡_, refl, _∙_, sym}
 use Rattle.store.specs.Scan.{allAt}
-use Rattle.store.specs.Chain.{nextMatch, nextCommitment, hasRoot}
 use Rattle.store.specs.Laws.{all-end, all-on, all-not}
-use Rattle.store.specs.declared.Link.the-variants.{End, At}
-use Rattle.sound.specs.Tests.{isEnd, rowOr}
 use Rattle.sound.specs.Sound.{tournamentRises, rises}
-use Rattle.sound.specs.Laws.{Sized, row-at, stands-unfit, stands-free, stands-fit, rises-out, rises-far, rises-top, rises-not, rises-on}
+use Rattle.sound.specs.Laws.{Sized, sized, row-at, stands-unfit, stands-free, stands-fit, rises-out, rises-far, rises-top, rises-not, rises-on}
 use Rattle.sound.proofs.tournaments_rise.Statement.{statement}
 use Rattle.sound.proofs.tournaments_rise.Tie as tie
 
@@ -32,15 +24,7 @@ abbrev μ-rows : tie.MeasureT-rows
 μ-rows s n₀ n = 32 - n
 
 rows-holds : tie.Need-rows-holds Inv-loop μ-loop Inv-rows μ-rows
-rows-holds c = (
-  record {
-    tournaments = sym (length-map (c .args .t1 .tournaments) _) ∙ c .good .0 .1 .1 .0 .1 .0 .1;
-    matches = sym (length-map (c .args .t1 .matches) _) ∙ c .good .0 .1 .1 .1 .0 .1 .0 .1;
-    commitments = sym (length-map (c .args .t1 .commitments) _) ∙ c .good .0 .1 .1 .1 .1 .0 .1 .0 .1;
-  },
-  omega arith,
-  refl,
-)
+rows-holds c = (sized (c .args .t1) _ _ _ (c .good .0 .1 .1 .0 .1 .0 .1) (c .good .0 .1 .1 .1 .0 .1 .0 .1) (c .good .0 .1 .1 .1 .1 .0 .1 .0 .1), omega arith, refl)
 
 returns : tie.Need-returns Inv-loop μ-loop Inv-rows μ-rows
 returns c = all-not _ _ 32 _ (c .before .before .before .before .rows .inv .2) (c .before .before .before .rows-test .taken) (stands-unfit _ _ _ _ _ (c .before .tournament-fits .ensures) (c .if1 .taken))

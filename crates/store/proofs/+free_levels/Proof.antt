@@ -13,7 +13,7 @@ use Rattle.store.specs.declared.Store.{Store}
 use Rattle.store.specs.declared.MatchStatus.{MatchStatus}
 use Rattle.store.specs.declared.MatchStatus.the-variants.{Free, Clocked, Leaf, Inner, Resolved}
 use Rattle.store.specs.Rows.{setTournament, setMatch, tournamentAt, matchAt}
-use Rattle.store.specs.Free.{freeC, freeS, freeM, freeT}
+use Rattle.store.specs.Free.{freeS, freeM, freeT}
 use Rattle.store.proofs.Freeing.{freeM-out, freeM-end, freeM-far, freeM-step, freeT-zero, freeT-far, freeT-step}
 use borrow.Fn.Kinds.{In}
 use borrow.Fn.PlainCycle.{Measures, is, falls, and}

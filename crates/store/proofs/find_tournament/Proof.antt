@@ -2,11 +2,10 @@
 -- `above`. Assumes nothing.
 use borrow.Author.Needs.{needs}
 use borrow.Author.Tests.{not-true, not-false}
-use Prim.Native.Nat.{ℕ, _≤_, _+_}
+use Prim.Native.Nat.{_≤_}
 use native.Mathlib.Omega.{arith}
 use mathlib.Core.Path.{_≡_, refl, _∙_, sym}
 use lib.ListN.{length, length-map, length-set}
-use Rattle.store.specs.declared.Store.{Store}
 use Rattle.store.specs.Rows.{tournamentAt}
 use Rattle.store.specs.Find.{places, firstWith, routeRows}
 use Rattle.store.proofs.Routing.{frames, routeFrom, route-out, route-lost, route-pop, route-far, route-none, route-deep, route-free, route-found, route-push}
