@@ -1,0 +1,27 @@
+use borrow.Author.Tests.{eq-eqb, ne-eqb}
+use Rattle.requests.specs.Requests.{stateOf}
+use Rattle.requests.proofs.state_of.Statement.{statement}
+use Rattle.requests.proofs.state_of.Tie as tie
+
+returns : tie.Need-returns
+unfolding stateOf
+returns c = simp (eq-eqb _ _ (c .if1 .taken))
+
+returns-2 : tie.Need-returns-2
+unfolding stateOf
+returns-2 c = simp (ne-eqb _ _ (c .before .if1 .left), eq-eqb _ _ (c .if2 .taken))
+
+returns-3 : tie.Need-returns-3
+unfolding stateOf
+returns-3 c = simp (ne-eqb _ _ (c .before .before .if1 .left), ne-eqb _ _ (c .before .if2 .left), eq-eqb _ _ (c .if3 .taken))
+
+returns-4 : tie.Need-returns-4
+unfolding stateOf
+returns-4 c = simp (ne-eqb _ _ (c .before .before .before .if1 .left), ne-eqb _ _ (c .before .before .if2 .left), ne-eqb _ _ (c .before .if3 .left), eq-eqb _ _ (c .if4 .taken))
+
+returns-5 : tie.Need-returns-5
+unfolding stateOf
+returns-5 c = simp (ne-eqb _ _ (c .before .before .before .if1 .left), ne-eqb _ _ (c .before .before .if2 .left), ne-eqb _ _ (c .before .if3 .left), ne-eqb _ _ (c .if4 .left))
+
+pub state-of-spec : {M : Type 1} → statement M
+state-of-spec = tie.close (tie.spec returns returns-2 returns-3 returns-4 returns-5)

@@ -1,0 +1,14 @@
+use Rattle.requests.specs.Requests.{valueAt}
+use borrow.Author.Needs.{needs}
+use Rattle.requests.proofs.value_at.Statement.{statement}
+use Rattle.requests.proofs.value_at.Tie as tie
+
+digest-at-requires : tie.Need-digest-at-requires
+digest-at-requires c κs = search needs
+
+returns : tie.Need-returns
+unfolding valueAt
+returns c = cc
+
+pub value-at-spec : {M : Type 1} → statement M
+value-at-spec = tie.close (tie.spec digest-at-requires returns)
