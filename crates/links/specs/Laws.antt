@@ -3,6 +3,7 @@
 --                    level where that shows an inner winner
 --     never-70       so 70 only where the first level shows an inner winner,
 --     always-70      and always there: the rule asks that the first level has no parent, and nothing of its standing
+--     lone-links     (there is such a snapshot),
 --     never-71       and 71 only where the last level awaits a child
 use Prim.Native.Nat.{ℕ, _+_, _-_}
 use native.Mathlib.Omega.{arith}
@@ -11,7 +12,8 @@ use mathlib.Core.Bool.{Bool, true, false, _&&_, and-false, and-true, cond}
 use mathlib.Core.List.{List, [], _∷_}
 use lib.ListN.{length}
 use Rattle.digest.specs.declared.Digest.{Digest}
-use Rattle.digest.specs.Digest.{sameDigest}
+use Rattle.digest.specs.Digest.{sameDigest, zeroDigest}
+use Rattle.u256.specs.Value.{valueOf}
 use Rattle.domain.specs.declared.Address.{Address}
 use Rattle.domain.specs.declared.InnerWinner.{InnerWinner}
 use Rattle.domain.specs.declared.MatchSide.{MatchSide}
@@ -30,13 +32,15 @@ use Rattle.domain.specs.declared.hero.WaitReason.{WaitReason}
 use Rattle.domain.specs.declared.refusal.CoreError.the-variants.{ParentMissing, ChildMissing}
 use Rattle.domain.specs.declared.refusal.Refusal.{Refusal}
 use Rattle.domain.specs.declared.refusal.Refusal.the-variants.{Core}
+use Rattle.geometry.specs.Geometry.{checkDescriptor}
+use Rattle.geometry.specs.Table.{number, descriptor}
 use Rattle.planner.specs.declared.SnapshotLevel.{SnapshotLevel}
 use Rattle.planner.specs.declared.SemanticSnapshot.{SemanticSnapshot}
 use Rattle.planner.specs.declared.HeroPlanned.{HeroPlanned}
 use Rattle.planner.specs.declared.HeroPlanned.the-variants as hero
 use Rattle.planner.specs.declared.Tested.{Tested}
 use Rattle.planner.specs.declared.Tested.the-variants as tested
-use Rattle.planner.specs.Snapshot.{used, levelRules}
+use Rattle.planner.specs.Snapshot.{used, descriptors, levelRules}
 use Rattle.planner.specs.Hero.{heroNumber, planState, planTimeout, planLocal, planInnerWinner, planStanding, planLevel, planNested, nestedOf, planTop, planHero}
 use Rattle.links.specs.declared.Linked.{Linked}
 use Rattle.links.specs.declared.Linked.the-variants.{Links, Refused}
@@ -242,3 +246,24 @@ lone-top (l ∷ m ∷ ms) p i = lone-standing 0 l _ (l .standing) i (left-of (no
 
 pub always-70 : (s : SemanticSnapshot) → checkLinks s ≡ Links → topInner (used s) ≡ true → planHero s ≡ hero.Refused (Core (ParentMissing 0))
 always-70 s links i = planned s links ∙ lone-top (used s) (parts s links .1) i
+
+unfoldable pub loneLevel : SnapshotLevel
+loneLevel =
+    record {
+      descriptor = descriptor 0 1 0 0;
+      standing = standing.InnerWinner (record { «parent_commitment» = zeroDigest; «child_commitment» = zeroDigest });
+      «local_commitment» = zeroDigest;
+      «local_standing» = local.NotJoined;
+      parent = parent.None;
+    }
+
+unfoldable pub lone : SemanticSnapshot
+lone =
+    record {
+      levels = loneLevel ∷ loneLevel ∷ loneLevel ∷ loneLevel ∷ loneLevel ∷ loneLevel ∷ loneLevel ∷ loneLevel ∷ [];
+      length = 1;
+    }
+
+pub lone-links : (checkLinks lone ≡ Links) × (heroNumber (planHero lone) ≡ 70)
+unfolding lone loneLevel number descriptor valueOf checkDescriptor descriptors levelRules linksTop linksFrom checkLinks planLevel planNested nestedOf planTop planHero
+lone-links = (refl, refl)

@@ -68,7 +68,7 @@ linksFrom level above [] = Links
 linksFrom level above (l ∷ ls) =
     cond (pairLinks above l) (linksFrom (level + 1) l ls) (Refused (Core (LevelsDoNotLink level)))
 
--- the whole chain from its first level; no levels are refused before this is asked
+-- the whole chain from its first level; a snapshot of no levels was refused before this is asked
 unfoldable pub linksTop : List SnapshotLevel → Linked
 linksTop [] = Refused (Core (SnapshotLevels 0))
 linksTop (l ∷ ls) = cond (topLinks l) (linksFrom 1 l ls) (Refused (Core (LevelsDoNotLink 0)))

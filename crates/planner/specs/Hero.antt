@@ -129,7 +129,7 @@ unfoldable pub nestedOf : SnapshotLevel → List SnapshotLevel → Nested
 nestedOf l [] = lowest l
 nestedOf l (m ∷ ms) = above l (nestedOf m ms)
 
--- the whole chain from its first level; no levels are refused before this is asked
+-- the whole chain from its first level; a snapshot of no levels was refused before this is asked
 unfoldable pub planTop : List SnapshotLevel → HeroPlanned
 planTop [] = Refused (Core (SnapshotLevels 0))
 planTop (l ∷ ls) = planNested 0 (nestedOf l ls)
@@ -142,7 +142,8 @@ planTested (tested.Refused r) answer = Refused r
 unfoldable pub planHero : SemanticSnapshot → HeroPlanned
 planHero s = planTested (levelRules s) (planTop (used s))
 
--- a step of the code gives f: it has the answer, whatever is below, or f is what is below
+-- For the contracts of the code's own steps, which are not public: a step gives f where it holds f's answer, whatever is below, or says
+-- that f is what is below.
 abbrev pub onward : Step → HeroPlanned → HeroPlanned
 onward (Is answer) below = answer
 onward Beneath below = below

@@ -1,9 +1,11 @@
 -- Document 01, "Hero": the levels of a snapshot, and the rules that come first for both entries, "69; descriptors". Assumes nothing:
 -- these are definitions.
+use Prim.Native.Nat.{ℕ}
 use mathlib.Core.Bool.{_||_, cond}
 use mathlib.Core.List.{List, [], _∷_}
 use lib.Dec.{eqb, ltb}
 use lib.ListN.{take}
+use Rattle.domain.specs.Refusals.{numberOf}
 use Rattle.domain.specs.declared.refusal.CoreError.the-variants.{SnapshotLevels}
 use Rattle.domain.specs.declared.refusal.Refusal.the-variants.{Domain, Core}
 use Rattle.geometry.specs.Geometry.{checkDescriptor, andThen}
@@ -13,6 +15,11 @@ use Rattle.planner.specs.declared.SnapshotLevel.{SnapshotLevel}
 use Rattle.planner.specs.declared.SemanticSnapshot.{SemanticSnapshot}
 use Rattle.planner.specs.declared.Tested.{Tested}
 use Rattle.planner.specs.declared.Tested.the-variants.{Passed, Refused}
+
+-- 0 means accepted
+abbrev pub testedNumber : Tested → ℕ
+testedNumber Passed = 0
+testedNumber (Refused r) = numberOf r
 
 -- the levels from the top, as many as the length says
 abbrev pub used : SemanticSnapshot → List SnapshotLevel
