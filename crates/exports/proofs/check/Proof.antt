@@ -1,17 +1,9 @@
+-- `exports::check` meets its contract. Assumes nothing.
 use mathlib.Core.Path.{sym, ap, _∙_}
 use Rattle.exports.specs.Check.{heldIf}
 use borrow.Author.Needs.{needs}
 use Rattle.exports.proofs.check.Statement.{statement}
 use Rattle.exports.proofs.check.Tie as tie
-
-check-descriptor-requires : tie.Need-check-descriptor-requires
-check-descriptor-requires c κs = search needs
-
-enum-told : tie.Need-enum-told
-enum-told c = search needs
-
-enum-known-e : tie.Need-enum-known-e
-enum-known-e c = search needs
 
 returns : tie.Need-returns
 returns c = ap (heldIf (c .before .before .before .args .d)) (sym (c .enum-told .given .1) ∙ c .before .before .check-descriptor .ensures)
@@ -21,4 +13,4 @@ returns-2 c = ap (heldIf (c .before .before .before .before .args .d)) (sym (c .
 
 pub check-spec : {M : Type 1} → statement M
 check-spec =
-    tie.close (tie.spec check-descriptor-requires enum-told enum-known-e returns returns-2)
+    tie.close (tie.spec (λ c κs. search needs) (λ c. search needs) (λ c. search needs) returns returns-2)

@@ -1,12 +1,15 @@
-use Prim.Native.Nat.{ℕ, _-_, _≤_}
+-- `exports::hemwillow_id_hash` meets its contract. Assumes nothing.
+use Prim.Native.Nat.{ℕ, suc, _-_, _^_, _<_}
 use mathlib.Core.Path.{_≡_, refl, sym, ap, ap₂, _∙_}
-use mathlib.Core.List.{List}
+use mathlib.Core.List.{List, [], _∷_}
 use native.Mathlib.Omega.{arith}
-use lib.ListN.{length, take, drop, length-drop}
+use lib.ListN.{length, getD, take, drop, length-drop}
 use lib.Seq.{length-take-le, take-all}
 use borrow.Author.Tests.{eq-eqb, ne-eqb}
 use Rattle.digest.specs.declared.Digest.{Digest}
 use Rattle.digest.specs.Digest.{bytesOf, fromBytes, joined}
+use Rattle.digest.specs.Strings.{Small}
+use Rattle.digest.specs.Laws.{bytes-joined}
 use Rattle.exports.specs.IdHash.{idHashNumber, idHashBytes}
 use Rattle.exports.proofs.Copied.{copied}
 use borrow.Author.Needs.{needs}
@@ -16,6 +19,11 @@ use Rattle.exports.proofs.hemwillow_id_hash.Tie as tie
 -- the second digest is all that follows the first
 second-half : (s : List ℕ) → length s ≡ 64 → take (length s - 32) (drop 32 s) ≡ drop 32 s
 second-half s h = take-all (length s - 32) (drop 32 s) (simp length-drop (omega arith))
+
+-- what is known of each element of a slice of bytes
+small : (s : List ℕ) → ((i : ℕ) → getD s i 0 < 2 ^ 8) → Small s
+small [] h = tt
+small (x ∷ s) h = (h 0, small s (λ i. h (suc i)))
 
 length-bytes : (d : Digest) → length (bytesOf d) ≡ 32
 unfolding bytesOf
@@ -35,44 +43,22 @@ slice-aggregate-digest-of c = sym (length-take-le 32 (c .before .before .before 
 digest-of-requires : tie.Need-digest-of-requires
 digest-of-requires c κs = length-take-le 32 (c .before .before .before .before .before .args .input .now) (omega arith)
 
-sub-digest-of : tie.Need-sub-digest-of
-sub-digest-of c = search needs
-
-part-digest-of-start : tie.Need-part-digest-of-start
-part-digest-of-start c = search needs
-
-part-digest-of-end : tie.Need-part-digest-of-end
-part-digest-of-end c = search needs
-
-digest-of-requires-2 : tie.Need-digest-of-requires-2
-digest-of-requires-2 c κs = search needs
-
-join-requires : tie.Need-join-requires
-join-requires c κs = search needs
-
-to-bytes-requires : tie.Need-to-bytes-requires
-to-bytes-requires c κs = search needs
-
-slice-aggregate-copy : tie.Need-slice-aggregate-copy
-slice-aggregate-copy c = search needs
-
-copy-requires : tie.Need-copy-requires
-copy-requires c κs = search needs
-
-same-length : tie.Need-same-length
-same-length c = search needs
-
 returns-3 : tie.Need-returns-3
 unfolding idHashNumber idHashBytes
 returns-3 c =
-    let s = c .before .before .before .before .before .before .before .before .before .before .before .before .before .before .before .args .input .now in
-    let first = c .before .before .before .before .before .before .before .before .before .digest-of .ensures in
-    let second = c .before .before .before .before .before .before .before .digest-of2 .ensures ∙ ap fromBytes (second-half s (c .before .before .before .before .before .before .before .before .before .before .before .before .if1 .left)) in
-    let hash = c .before .before .before .before .before .to-bytes .ensures ∙ ap bytesOf (c .before .before .before .before .before .before .join .ensures ∙ ap₂ joined first second) in
-    let long = ap length hash ∙ length-bytes _ ∙ sym (c .before .before .before .before .before .before .before .before .before .before .before .if2 .left) in
-    let e₁ = eq-eqb _ _ (c .before .before .before .before .before .before .before .before .before .before .before .before .if1 .left) in
-    let e₂ = eq-eqb _ _ (c .before .before .before .before .before .before .before .before .before .before .before .if2 .left) in
-    (simp (e₁, e₂), simp (e₁, e₂) (c .before .before .copy .ensures .1 ∙ copied _ _ long ∙ hash))
+    let hashed = c .before .before .before .before .before in
+    let fits = hashed .before .before .before .before .before .before in
+    let start = fits .before .before .before .before in
+    let s = start .args .input .now in
+    let long-in = fits .before .if1 .left in
+    let long-out = fits .if2 .left in
+    let second = hashed .before .before .digest-of2 .ensures ∙ ap fromBytes (second-half s long-in) in
+    let hash = hashed .to-bytes .ensures ∙ ap bytesOf (hashed .before .join .ensures ∙ ap₂ joined (hashed .before .before .before .before .digest-of .ensures) second) in
+    let long = ap length hash ∙ length-bytes _ ∙ sym long-out in
+    let bytes : (i : ℕ) → getD s i 0 < 2 ^ 8 = λ i. omega (arith, fits .before .before .before .shared-slice-known .given i) in
+    let e₁ = eq-eqb _ _ long-in in
+    let e₂ = eq-eqb _ _ long-out in
+    (simp (e₁, e₂), simp (e₁, e₂) (c .before .before .copy .ensures .1 ∙ copied _ _ long ∙ hash ∙ bytes-joined s long-in (small s bytes)))
 
 pub hemwillow-id-hash-spec : {M : Type 1} → statement M
 hemwillow-id-hash-spec =
@@ -82,13 +68,13 @@ hemwillow-id-hash-spec =
     returns-2
     slice-aggregate-digest-of
     digest-of-requires
-    sub-digest-of
-    part-digest-of-start
-    part-digest-of-end
-    digest-of-requires-2
-    join-requires
-    to-bytes-requires
-    slice-aggregate-copy
-    copy-requires
-    same-length
+    (λ c. search needs)
+    (λ c. search needs)
+    (λ c. search needs)
+    (λ c κs. search needs)
+    (λ c κs. search needs)
+    (λ c κs. search needs)
+    (λ c. search needs)
+    (λ c κs. search needs)
+    (λ c. search needs)
     returns-3)

@@ -1,23 +1,9 @@
+-- `exports::hemwillow_record_check` meets its contract. Assumes nothing.
 use mathlib.Core.Path.{sym, ap, _∙_}
 use Rattle.exports.specs.Check.{heldNumber, recordNumber}
 use borrow.Author.Needs.{needs}
 use Rattle.exports.proofs.hemwillow_record_check.Statement.{statement}
 use Rattle.exports.proofs.hemwillow_record_check.Tie as tie
-
-read-requires : tie.Need-read-requires
-read-requires c κs = search needs
-
-enum-told : tie.Need-enum-told
-enum-told c = search needs
-
-enum-told-2 : tie.Need-enum-told-2
-enum-told-2 c = search needs
-
-enum-known-e : tie.Need-enum-known-e
-enum-known-e c = search needs
-
-number-requires : tie.Need-number-requires
-number-requires c κs = search needs
 
 returns : tie.Need-returns
 unfolding recordNumber
@@ -35,11 +21,11 @@ pub hemwillow-record-check-spec : {M : Type 1} → statement M
 hemwillow-record-check-spec =
     tie.close
     (tie.spec
-    read-requires
-    enum-told
-    enum-told-2
-    enum-known-e
-    number-requires
+    (λ c κs. search needs)
+    (λ c. search needs)
+    (λ c. search needs)
+    (λ c. search needs)
+    (λ c κs. search needs)
     returns
     returns-2
     returns-3)

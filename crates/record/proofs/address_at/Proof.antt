@@ -1,22 +1,8 @@
+-- `record::address_at` meets its contract. Assumes nothing.
 use Rattle.record.specs.Bytes.{addressAt}
 use borrow.Author.Needs.{needs}
 use Rattle.record.proofs.address_at.Statement.{statement}
 use Rattle.record.proofs.address_at.Tie as tie
-
-number64-requires : tie.Need-number64-requires
-number64-requires c κs = search needs
-
-add-number64 : tie.Need-add-number64
-add-number64 c = search needs
-
-number64-requires-2 : tie.Need-number64-requires-2
-number64-requires-2 c κs = search needs
-
-add-number32 : tie.Need-add-number32
-add-number32 c = search needs
-
-number32-requires : tie.Need-number32-requires
-number32-requires c κs = search needs
 
 returns : tie.Need-returns
 unfolding addressAt
@@ -26,9 +12,9 @@ pub address-at-spec : {M : Type 1} → statement M
 address-at-spec =
     tie.close
     (tie.spec
-    number64-requires
-    add-number64
-    number64-requires-2
-    add-number32
-    number32-requires
+    (λ c κs. search needs)
+    (λ c. search needs)
+    (λ c κs. search needs)
+    (λ c. search needs)
+    (λ c κs. search needs)
     returns)

@@ -1,31 +1,8 @@
+-- `record::descriptor_at` meets its contract. Assumes nothing.
 use Rattle.record.specs.Record.{descriptorAt}
 use borrow.Author.Needs.{needs}
 use Rattle.record.proofs.descriptor_at.Statement.{statement}
 use Rattle.record.proofs.descriptor_at.Tie as tie
-
-address-at-requires : tie.Need-address-at-requires
-address-at-requires c κs = search needs
-
-shared-slice-read-kind-of : tie.Need-shared-slice-read-kind-of
-shared-slice-read-kind-of c = search needs
-
-kind-of-requires : tie.Need-kind-of-requires
-kind-of-requires c κs = search needs
-
-number64-requires : tie.Need-number64-requires
-number64-requires c κs = search needs
-
-digest-at-requires : tie.Need-digest-at-requires
-digest-at-requires c κs = search needs
-
-value-at-requires : tie.Need-value-at-requires
-value-at-requires c κs = search needs
-
-number64-requires-2 : tie.Need-number64-requires-2
-number64-requires-2 c κs = search needs
-
-number64-requires-3 : tie.Need-number64-requires-3
-number64-requires-3 c κs = search needs
 
 returns : tie.Need-returns
 unfolding descriptorAt
@@ -35,12 +12,12 @@ pub descriptor-at-spec : {M : Type 1} → statement M
 descriptor-at-spec =
     tie.close
     (tie.spec
-    address-at-requires
-    shared-slice-read-kind-of
-    kind-of-requires
-    number64-requires
-    digest-at-requires
-    value-at-requires
-    number64-requires-2
-    number64-requires-3
+    (λ c κs. search needs)
+    (λ c. search needs)
+    (λ c κs. search needs)
+    (λ c κs. search needs)
+    (λ c κs. search needs)
+    (λ c κs. search needs)
+    (λ c κs. search needs)
+    (λ c κs. search needs)
     returns)

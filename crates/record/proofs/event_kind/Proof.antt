@@ -1,3 +1,4 @@
+-- `record::event_kind` meets its contract. Assumes nothing.
 use Rattle.domain.specs.declared.dispute.EventKind.the-variants.{CommitmentJoined, MatchCreated, MatchAdvanced, LeafMatchSealed, NewInnerTournament, MatchDeleted}
 use Prim.Native.Nat.{_≤_, _-_}
 use lib.ListN.{List·getD-eq-default}
@@ -6,30 +7,6 @@ use Rattle.record.proofs.Last.{from-six}
 use borrow.Author.Needs.{needs}
 use Rattle.record.proofs.event_kind.Statement.{statement}
 use Rattle.record.proofs.event_kind.Tie as tie
-
-digest-at-requires : tie.Need-digest-at-requires
-digest-at-requires c κs = search needs
-
-number64-requires : tie.Need-number64-requires
-number64-requires c κs = search needs
-
-digest-at-requires-2 : tie.Need-digest-at-requires-2
-digest-at-requires-2 c κs = search needs
-
-descriptor-at-requires : tie.Need-descriptor-at-requires
-descriptor-at-requires c κs = search needs
-
-shared-slice-read-reason-of : tie.Need-shared-slice-read-reason-of
-shared-slice-read-reason-of c = search needs
-
-reason-of-requires : tie.Need-reason-of-requires
-reason-of-requires c κs = search needs
-
-shared-slice-read-winner-of : tie.Need-shared-slice-read-winner-of
-shared-slice-read-winner-of c = search needs
-
-winner-of-requires : tie.Need-winner-of-requires
-winner-of-requires c κs = search needs
 
 returns : tie.Need-returns
 unfolding eventKind
@@ -59,14 +36,14 @@ pub event-kind-spec : {M : Type 1} → statement M
 event-kind-spec =
     tie.close
     (tie.spec
-    digest-at-requires
-    number64-requires
-    digest-at-requires-2
-    descriptor-at-requires
-    shared-slice-read-reason-of
-    reason-of-requires
-    shared-slice-read-winner-of
-    winner-of-requires
+    (λ c κs. search needs)
+    (λ c κs. search needs)
+    (λ c κs. search needs)
+    (λ c κs. search needs)
+    (λ c. search needs)
+    (λ c κs. search needs)
+    (λ c. search needs)
+    (λ c κs. search needs)
     returns
     returns-2
     returns-3

@@ -1,3 +1,4 @@
+-- `record::event_of` meets its contract. Assumes nothing.
 use mathlib.Core.Path.{ap, ap₂}
 use Prim.Native.Nat.{_≤_}
 use mathlib.Core.List.{[], _∷_}
@@ -9,18 +10,9 @@ use borrow.Author.Needs.{needs}
 use Rattle.record.proofs.event_of.Statement.{statement}
 use Rattle.record.proofs.event_of.Tie as tie
 
-descriptor-at-requires : tie.Need-descriptor-at-requires
-descriptor-at-requires c κs = search needs
-
 returns : tie.Need-returns
 unfolding eventOf
 returns c = rw (c .before .if1 .taken) (ap Opening (c .descriptor-at .ensures))
-
-address-at-requires : tie.Need-address-at-requires
-address-at-requires c κs = search needs
-
-event-kind-requires : tie.Need-event-kind-requires
-event-kind-requires c κs = search needs
 
 returns-2 : tie.Need-returns-2
 unfolding eventOf
@@ -32,4 +24,4 @@ returns-2 c =
 pub event-of-spec : {M : Type 1} → statement M
 event-of-spec =
     tie.close
-    (tie.spec descriptor-at-requires returns address-at-requires event-kind-requires returns-2)
+    (tie.spec (λ c κs. search needs) returns (λ c κs. search needs) (λ c κs. search needs) returns-2)

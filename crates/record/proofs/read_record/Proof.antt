@@ -1,3 +1,4 @@
+-- `record::read_record` meets its contract. Assumes nothing.
 use mathlib.Core.Path.{sym, ap}
 use borrow.Author.Tests.{eq-eqb, ne-eqb, le-ltb, lt-ltb, not-true, not-false}
 use Rattle.record.specs.Record.{readRecord}
@@ -10,25 +11,13 @@ returns : tie.Need-returns
 unfolding readRecord
 returns c = simp (ne-eqb _ _ (c .if1 .taken))
 
-well-formed-requires : tie.Need-well-formed-requires
-well-formed-requires c κs = search needs
-
 returns-2 : tie.Need-returns-2
 unfolding readRecord
 returns-2 c = simp (eq-eqb _ _ (c .before .before .if1 .left), sym (c .before .well-formed .ensures), not-true (c .before .well-formed .result) (c .if2 .taken))
 
-shared-slice-read-tournament-kind : tie.Need-shared-slice-read-tournament-kind
-shared-slice-read-tournament-kind c = search needs
-
 returns-3 : tie.Need-returns-3
 unfolding readRecord
 returns-3 c = simp (eq-eqb _ _ (c .before .before .before .before .if1 .left), sym (c .before .before .before .well-formed .ensures), not-false (c .before .before .before .well-formed .result) (c .before .before .if2 .left), lt-ltb _ _ (c .if3 .taken))
-
-shared-slice-read-event-of : tie.Need-shared-slice-read-event-of
-shared-slice-read-event-of c = search needs
-
-event-of-requires : tie.Need-event-of-requires
-event-of-requires c κs = search needs
 
 returns-4 : tie.Need-returns-4
 unfolding readRecord
@@ -39,10 +28,10 @@ read-record-spec =
     tie.close
     (tie.spec
     returns
-    well-formed-requires
+    (λ c κs. search needs)
     returns-2
-    shared-slice-read-tournament-kind
+    (λ c. search needs)
     returns-3
-    shared-slice-read-event-of
-    event-of-requires
+    (λ c. search needs)
+    (λ c κs. search needs)
     returns-4)

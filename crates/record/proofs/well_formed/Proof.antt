@@ -1,3 +1,4 @@
+-- `record::well_formed` meets its contract. Assumes nothing.
 use Prim.Native.Nat.{ℕ, _≤_}
 use mathlib.Core.Path.{_≡_, sym, _∙_}
 use mathlib.Core.Bool.{true}
@@ -11,29 +12,17 @@ use borrow.Author.Needs.{needs}
 use Rattle.record.proofs.well_formed.Statement.{statement}
 use Rattle.record.proofs.well_formed.Tie as tie
 
-shared-slice-read-kind : tie.Need-shared-slice-read-kind
-shared-slice-read-kind c = search needs
-
 returns : tie.Need-returns
 unfolding wellFormed
 returns c = simp (lt-leb _ _ (c .if1 .taken))
-
-unused-zero-requires : tie.Need-unused-zero-requires
-unused-zero-requires c κs = search needs
 
 returns-2 : tie.Need-returns-2
 unfolding wellFormed
 returns-2 c = simp (le-leb _ _ (c .before .before .if1 .left), sym (c .before .unused-zero .ensures), not-true (c .before .unused-zero .result) (c .if2 .taken))
 
-shared-slice-read-if3 : tie.Need-shared-slice-read-if3
-shared-slice-read-if3 c = search needs
-
 returns-3 : tie.Need-returns-3
 unfolding wellFormed
 returns-3 c = simp (le-leb _ _ (c .before .before .before .before .if1 .left), sym (c .before .before .before .unused-zero .ensures), not-false (c .before .before .before .unused-zero .result) (c .before .before .if2 .left), lt-leb _ _ (c .if3 .taken))
-
-shared-slice-read-result : tie.Need-shared-slice-read-result
-shared-slice-read-result c = search needs
 
 -- the winner decides where all else passes
 last : (s : List ℕ) → byte s at.kind ≤ 6 → unusedZero (byte s at.kind) s ≡ true → byte s at.reason ≤ 2 → leb (byte s at.winner) 2 ≡ wellFormed s
@@ -49,11 +38,11 @@ pub well-formed-spec : {M : Type 1} → statement M
 well-formed-spec =
     tie.close
     (tie.spec
-    shared-slice-read-kind
+    (λ c. search needs)
     returns
-    unused-zero-requires
+    (λ c κs. search needs)
     returns-2
-    shared-slice-read-if3
+    (λ c. search needs)
     returns-3
-    shared-slice-read-result
+    (λ c. search needs)
     returns-4)
