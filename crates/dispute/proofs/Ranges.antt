@@ -18,8 +18,7 @@ use Rattle.store.specs.declared.MatchRow.{MatchRow}
 use Rattle.store.specs.declared.CommitmentRow.{CommitmentRow}
 use Rattle.store.specs.declared.Link.{Link}
 use Rattle.store.specs.declared.Link.the-variants.{End, At}
-use Rattle.store.specs.declared.Route.{Route}
-use Rattle.store.specs.declared.Route.the-variants.{Lost, Found}
+use Rattle.store.specs.declared.Route.the-variants.{Found}
 use Rattle.store.specs.declared.MatchStatus.{MatchStatus}
 use Rattle.store.specs.declared.MatchStatus.the-variants.{Free, Clocked, Leaf, Inner, Resolved}
 use Rattle.store.specs.Rows.{tournamentAt, matchAt, commitmentAt, clockedStatus}

@@ -1,13 +1,13 @@
 -- A run of records, one record more: the store and the numbers as the loop has them. Assumes nothing.
-use Prim.Native.Nat.{ℕ, zero, suc, _+_, _*_, _/_, _%_, _<_}
+use Prim.Native.Nat.{ℕ, zero, suc, _+_, _/_, _%_, _<_}
 use native.Mathlib.Numerals.{add-one}
 use native.Mathlib.Omega.{arith}
 use borrow.Author.Tests.{eq-eqb, ne-eqb}
 use mathlib.Core.Path.{_≡_, refl, ap, sym, _∙_}
 use mathlib.Core.Bool.{true, false}
 use mathlib.Core.Logic.{_≢_}
-use mathlib.Core.List.{List, [], _∷_, _++_}
-use lib.ListN.{length, take, drop, set, getD, length-append}
+use mathlib.Core.List.{List, _++_}
+use lib.ListN.{length, drop, set, getD, length-append}
 use lib.Seq.{set-at, drop-cons, append-snoc}
 use Rattle.domain.specs.declared.dispute.Event.{Event}
 use Rattle.domain.specs.declared.refusal.Refusal.{Refusal}

@@ -27,9 +27,7 @@ use Rattle.store.specs.Chain.{commitmentByRoot, matchById}
 use Rattle.store.specs.Find.{routeRows}
 use Rattle.sound.specs.Sound.{soundRows}
 use Rattle.dispute.specs.declared.Match.{Match}
-use Rattle.dispute.specs.declared.CommitmentPosition.{CommitmentPosition}
 use Rattle.dispute.specs.declared.CommitmentPosition.the-variants.{NotJoined, Candidate, Eliminated}
-use Rattle.dispute.specs.declared.Positioned.{Positioned}
 use Rattle.dispute.specs.declared.Positioned.the-variants as positioned
 use Rattle.dispute.specs.declared.MatchFound.{MatchFound}
 use Rattle.dispute.specs.declared.MatchFound.the-variants as found

@@ -18,7 +18,6 @@ use store::MatchStatus;
 use store::Route;
 use store::Store;
 ghost use mathlib.Core.Path.{_≡_};
-ghost use Rattle.store.specs.Rows.{tournamentAt, matchAt};
 ghost use Rattle.dispute.specs.Position.{matchOf, sideIn, byStatus, positionAt, positionOf, matchIn, matchByIdHash, matchFor};
 ghost use Rattle.position.specs.Reading.{reachedRow, latestIn, firstMatch, nextMatch, countedRows};
 

@@ -8,10 +8,22 @@ use Rattle.dispute.proofs.advance_at.Statement.{statement}
 use Rattle.dispute.proofs.advance_at.Tie as tie
 
 returns : tie.Need-returns
-returns c = advance-refused _ _ _ _ _ _ (sym (clocked-found (c .before .before .before .before .before .args .s) (c .before .before .before .before .before .args .t) (c .before .before .before .before .before .args .a) (c .before .before .before .before .before .args .id-hash) _ _ (c .before .before .before .before .find-match .ensures) (c .before .before .before .clocked .ensures)) ∙ c .before .e .given .1)
+returns c =
+    let a = c .before .before .before .before .before .args in
+    let p = c .before .before .before .before .find-match .ensures in
+    let q = c .before .before .before .clocked .ensures in
+    let f = clocked-found (a .s) (a .t) (a .a) (a .id-hash) _ _ p q in
+    advance-refused _ _ _ _ _ _ (sym f ∙ c .before .e .given .1)
 
 returns-2 : tie.Need-returns-2
-returns-2 c = advance-taken _ _ _ _ _ _ (clocked-below (c .before .before .before .before .before .args .s) (c .before .before .before .before .before .args .t) (c .before .before .before .before .before .args .a) (c .before .before .before .before .before .args .id-hash) _ _ (c .before .before .before .before .find-match .ensures) (sym (length-map (c .before .before .before .before .before .args .s .matches) _) ∙ c .before .before .before .before .before .good .0 .1 .1 .1 .0 .1 .0 .1) (c .before .before .before .clocked .ensures) _ (c .before .i .given .1)) (sym (clocked-found (c .before .before .before .before .before .args .s) (c .before .before .before .before .before .args .t) (c .before .before .before .before .before .args .a) (c .before .before .before .before .before .args .id-hash) _ _ (c .before .before .before .before .find-match .ensures) (c .before .before .before .clocked .ensures)) ∙ c .before .i .given .1)
+returns-2 c =
+    let a = c .before .before .before .before .before .args in
+    let p = c .before .before .before .before .find-match .ensures in
+    let q = c .before .before .before .clocked .ensures in
+    let f = clocked-found (a .s) (a .t) (a .a) (a .id-hash) _ _ p q in
+    let m = sym (length-map (a .s .matches) _) ∙ c .before .before .before .before .before .good .0 .1 .1 .1 .0 .1 .0 .1 in
+    let h = clocked-below (a .s) (a .t) (a .a) (a .id-hash) _ _ p m q _ (c .before .i .given .1) in
+    advance-taken _ _ _ _ _ _ h (sym f ∙ c .before .i .given .1)
 
 pub advance-at-spec : {M : Type 1} → statement M
 advance-at-spec = tie.close (tie.spec (λ c κs. search needs) (λ c κs. search needs) (λ c. search needs) (λ c. search needs) returns returns-2)

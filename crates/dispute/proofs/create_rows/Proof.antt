@@ -1,7 +1,7 @@
 -- `create_rows` answers the store with the match made, linked after the last one and latest of both commitments. Assumes nothing.
 use borrow.Author.Needs.{needs}
 use mathlib.Core.Path.{_≡_, ap, sym, _∙_}
-use Prim.Native.Nat.{ℕ, _≤_, _<_}
+use Prim.Native.Nat.{ℕ, _≤_}
 use native.Mathlib.Omega.{arith}
 use lib.ListN.{length, length-map, length-set}
 use lib.Seq.{set-out}
@@ -13,7 +13,7 @@ use Rattle.store.specs.declared.MatchRow.{MatchRow}
 use Rattle.store.specs.declared.CommitmentRow.{CommitmentRow}
 use Rattle.store.specs.declared.Link.{Link}
 use Rattle.store.specs.declared.Link.the-variants.{End, At}
-use Rattle.store.specs.Rows.{tournamentAt, matchAt, commitmentAt, setTournament, setMatch, setCommitment, createdRow, withLatest, withNextMatch, withLast, withMatches}
+use Rattle.store.specs.Rows.{tournamentAt, matchAt, commitmentAt, setTournament, setMatch, setCommitment, createdRow, withLatest, withNextMatch, withLast}
 use Rattle.dispute.specs.Rows.{latestRows, linkRows, createRows}
 use Rattle.dispute.proofs.create_rows.Statement.{statement}
 use Rattle.dispute.proofs.create_rows.Tie as tie
@@ -37,6 +37,36 @@ module _ (s : Store) (t one two j : ℕ) (id : MatchID) (n : ℕ) (m : MatchRow)
     linked : (l : Link) → tournamentAt s t .last ≡ l → linkRows made t j l ≡ createRows s t one two j id n
     linked l e = λ k. linkRows (before-link k) t j (sym e k)
 
+-- the same at the place where the code has written them
+module _ (d : tie.After-with-latest2) where
+  abbrev from : Store
+  from = d .before .before .before .before .before .before .args .t1
+
+  abbrev t : ℕ
+  t = d .before .before .before .before .before .before .args .t
+
+  abbrev one : ℕ
+  one = d .before .before .before .before .before .before .args .one
+
+  abbrev two : ℕ
+  two = d .before .before .before .before .before .before .args .two
+
+  abbrev j : ℕ
+  j = d .before .before .before .before .before .before .args .j
+
+  abbrev id : MatchID
+  id = d .before .before .before .before .before .before .args .id
+
+  abbrev block : ℕ
+  block = d .before .before .before .before .before .before .args .eliminable-at
+
+  abbrev madeAt : Store
+  madeAt = made from t one two j id block (d .before .before .before .before .before .created-row .result) (d .before .before .with-latest .result) (d .with-latest2 .result)
+
+  linkedAt : (l : Link) → tournamentAt from t .last ≡ l → linkRows madeAt t j l ≡ createRows from t one two j id block
+  linkedAt l e =
+      linked from t one two j id block _ _ _ (d .before .before .before .before .before .created-row .ensures) (d .before .before .with-latest .ensures) (d .with-latest2 .ensures) l e
+
 mul-t36 : tie.Need-mul-t36
 mul-t36 c = let h = c .before .before .before .before .before .before .before .before .before .before .before .pre .0 in search needs
 
@@ -44,13 +74,29 @@ element-set-from-s-2 : tie.Need-element-set-from-s-2
 element-set-from-s-2 c = let h = c .before .before .before .before .before .before .before .before .before .before .before .pre .0 in search needs
 
 returns : tie.Need-returns
-returns c = let a = c .before .before .before .before .before .before .before .before .before .before .before .args in let m = made (c .before .before .before .before .before .before .before .before .before .before .before .args .t1) (c .before .before .before .before .before .before .before .before .before .before .before .args .t) (c .before .before .before .before .before .before .before .before .before .before .before .args .one) (c .before .before .before .before .before .before .before .before .before .before .before .args .two) (c .before .before .before .before .before .before .before .before .before .before .before .args .j) (c .before .before .before .before .before .before .before .before .before .before .before .args .id) (c .before .before .before .before .before .before .before .before .before .before .before .args .eliminable-at) (c .before .before .before .before .before .before .before .before .before .before .created-row .result) (c .before .before .before .before .before .before .before .with-latest .result) (c .before .before .before .before .before .with-latest2 .result) in (λ k. setTournament m (a .t) ((c .with-last .ensures ∙ ap (λ z. withLast z (At (a .j))) (c .before .with-matches .ensures)) k)) ∙ linked (c .before .before .before .before .before .before .before .before .before .before .before .args .t1) (c .before .before .before .before .before .before .before .before .before .before .before .args .t) (c .before .before .before .before .before .before .before .before .before .before .before .args .one) (c .before .before .before .before .before .before .before .before .before .before .before .args .two) (c .before .before .before .before .before .before .before .before .before .before .before .args .j) (c .before .before .before .before .before .before .before .before .before .before .before .args .id) (c .before .before .before .before .before .before .before .before .before .before .before .args .eliminable-at) (c .before .before .before .before .before .before .before .before .before .before .created-row .result) (c .before .before .before .before .before .before .before .with-latest .result) (c .before .before .before .before .before .with-latest2 .result) (c .before .before .before .before .before .before .before .before .before .before .created-row .ensures) (c .before .before .before .before .before .before .before .with-latest .ensures) (c .before .before .before .before .before .with-latest2 .ensures) End (c .before .before .enum-told .given .1)
+returns c =
+    let a = c .before .before .before .before .before .before .before .before .before .before .before .args in
+    let d = c .before .before .before .before .before in
+    (λ k. setTournament (madeAt d) (a .t) ((c .with-last .ensures ∙ ap (λ z. withLast z (At (a .j))) (c .before .with-matches .ensures)) k))
+    ∙ linkedAt d End (c .before .before .enum-told .given .1)
 
 returns-2 : tie.Need-returns-2
-returns-2 c = let a = c .before .before .before .before .before .before .before .before .before .before .before .before .before .before .args in let i = c .before .before .before .before .before .last .given .0 .0 in let m = made (c .before .before .before .before .before .before .before .before .before .before .before .before .before .before .args .t1) (c .before .before .before .before .before .before .before .before .before .before .before .before .before .before .args .t) (c .before .before .before .before .before .before .before .before .before .before .before .before .before .before .args .one) (c .before .before .before .before .before .before .before .before .before .before .before .before .before .before .args .two) (c .before .before .before .before .before .before .before .before .before .before .before .before .before .before .args .j) (c .before .before .before .before .before .before .before .before .before .before .before .before .before .before .args .id) (c .before .before .before .before .before .before .before .before .before .before .before .before .before .before .args .eliminable-at) (c .before .before .before .before .before .before .before .before .before .before .before .before .before .created-row .result) (c .before .before .before .before .before .before .before .before .before .before .with-latest .result) (c .before .before .before .before .before .before .before .before .with-latest2 .result) in (λ k. setTournament (setMatch m i (c .with-next-match .ensures k)) (a .t) (c .before .before .before .with-last2 .ensures k)) ∙ linked (c .before .before .before .before .before .before .before .before .before .before .before .before .before .before .args .t1) (c .before .before .before .before .before .before .before .before .before .before .before .before .before .before .args .t) (c .before .before .before .before .before .before .before .before .before .before .before .before .before .before .args .one) (c .before .before .before .before .before .before .before .before .before .before .before .before .before .before .args .two) (c .before .before .before .before .before .before .before .before .before .before .before .before .before .before .args .j) (c .before .before .before .before .before .before .before .before .before .before .before .before .before .before .args .id) (c .before .before .before .before .before .before .before .before .before .before .before .before .before .before .args .eliminable-at) (c .before .before .before .before .before .before .before .before .before .before .before .before .before .created-row .result) (c .before .before .before .before .before .before .before .before .before .before .with-latest .result) (c .before .before .before .before .before .before .before .before .with-latest2 .result) (c .before .before .before .before .before .before .before .before .before .before .before .before .before .created-row .ensures) (c .before .before .before .before .before .before .before .before .before .before .with-latest .ensures) (c .before .before .before .before .before .before .before .before .with-latest2 .ensures) (At i) (c .before .before .before .before .before .last .given .1)
+returns-2 c =
+    let a = c .before .before .before .before .before .before .before .before .before .before .before .before .before .before .args in
+    let d = c .before .before .before .before .before .before .before .before in
+    let i = c .before .before .before .before .before .last .given .0 .0 in
+    (λ k. setTournament (setMatch (madeAt d) i (c .with-next-match .ensures k)) (a .t) (c .before .before .before .with-last2 .ensures k)) ∙ linkedAt d (At i) (c .before .before .before .before .before .last .given .1)
 
 returns-3 : tie.Need-returns-3
-returns-3 c = let a = c .before .before .before .before .before .before .before .before .before .before .before .before .args in let i = c .before .before .before .last .given .0 .0 in let m = made (c .before .before .before .before .before .before .before .before .before .before .before .before .args .t1) (c .before .before .before .before .before .before .before .before .before .before .before .before .args .t) (c .before .before .before .before .before .before .before .before .before .before .before .before .args .one) (c .before .before .before .before .before .before .before .before .before .before .before .before .args .two) (c .before .before .before .before .before .before .before .before .before .before .before .before .args .j) (c .before .before .before .before .before .before .before .before .before .before .before .before .args .id) (c .before .before .before .before .before .before .before .before .before .before .before .before .args .eliminable-at) (c .before .before .before .before .before .before .before .before .before .before .before .created-row .result) (c .before .before .before .before .before .before .before .before .with-latest .result) (c .before .before .before .before .before .before .with-latest2 .result) in let far : length (m .matches) ≤ i = simp length-set (omega (arith, sym (length-map (a .t1 .matches) _) ∙ c .before .before .before .before .before .before .before .before .before .before .before .before .good .0 .1 .1 .1 .0 .1 .0 .1, c .if1 .left)) in (λ k. setTournament (record { tournaments = m .tournaments; matches = sym (set-out (m .matches) i (withNextMatch (matchAt m i) (At (a .j))) far) k; commitments = m .commitments }) (a .t) (c .before .with-last2 .ensures k)) ∙ linked (c .before .before .before .before .before .before .before .before .before .before .before .before .args .t1) (c .before .before .before .before .before .before .before .before .before .before .before .before .args .t) (c .before .before .before .before .before .before .before .before .before .before .before .before .args .one) (c .before .before .before .before .before .before .before .before .before .before .before .before .args .two) (c .before .before .before .before .before .before .before .before .before .before .before .before .args .j) (c .before .before .before .before .before .before .before .before .before .before .before .before .args .id) (c .before .before .before .before .before .before .before .before .before .before .before .before .args .eliminable-at) (c .before .before .before .before .before .before .before .before .before .before .before .created-row .result) (c .before .before .before .before .before .before .before .before .with-latest .result) (c .before .before .before .before .before .before .with-latest2 .result) (c .before .before .before .before .before .before .before .before .before .before .before .created-row .ensures) (c .before .before .before .before .before .before .before .before .with-latest .ensures) (c .before .before .before .before .before .before .with-latest2 .ensures) (At i) (c .before .before .before .last .given .1)
+returns-3 c =
+    let a = c .before .before .before .before .before .before .before .before .before .before .before .before .args in
+    let d = c .before .before .before .before .before .before in
+    let i = c .before .before .before .last .given .0 .0 in
+    let m = madeAt d in
+    let far : length (m .matches) ≤ i = simp length-set (omega (arith, sym (length-map (a .t1 .matches) _) ∙ c .before .before .before .before .before .before .before .before .before .before .before .before .good .0 .1 .1 .1 .0 .1 .0 .1, c .if1 .left)) in
+    let kept = sym (set-out (m .matches) i (withNextMatch (matchAt m i) (At (a .j))) far) in
+    (λ k. setTournament (record { tournaments = m .tournaments; matches = kept k; commitments = m .commitments }) (a .t) (c .before .with-last2 .ensures k))
+    ∙ linkedAt d (At i) (c .before .before .before .last .given .1)
 
 pub create-rows-spec : {M : Type 1} → statement M
 create-rows-spec = tie.close (tie.spec (λ c κs. search needs) (λ c. search needs) (λ c. search needs) (λ c κs. search needs) (λ c. search needs) (λ c. search needs) (λ c. search needs) (λ c. search needs) (λ c κs. search needs) (λ c. search needs) (λ c. search needs) (λ c. search needs) (λ c. search needs) (λ c. search needs) (λ c. search needs) (λ c. search needs) (λ c. search needs) (λ c κs. search needs) (λ c κs. search needs) mul-t36 element-set-from-s-2 returns (λ c κs. search needs) (λ c. search needs) (λ c. search needs) (λ c. search needs) (λ c. search needs) (λ c κs. search needs) (λ c. search needs) (λ c. search needs) returns-2 returns-3)

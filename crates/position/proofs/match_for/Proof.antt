@@ -1,6 +1,6 @@
 -- `match_for` answers 61, 62 or the latest match of a commitment. Assumes nothing.
 use borrow.Author.Needs.{needs}
-use mathlib.Core.Path.{ap, sym, _∙_}
+use mathlib.Core.Path.{sym, _∙_}
 use Rattle.store.specs.Chain.{commitmentByRoot}
 use Rattle.dispute.specs.Position.{forCommitment, matchFor}
 use Rattle.position.specs.Reading.{latestIn}
