@@ -9,7 +9,6 @@ use Rattle.digest.specs.declared.Digest.{Digest}
 use Rattle.u256.specs.declared.U256.{U256}
 use Rattle.domain.specs.Refusals.{addressValues, digestValues, optionDigestValues, domainValues, disputeValues, observerValues, coreValues}
 use Rattle.domain.specs.declared.refusal.Refusal.{Refusal}
-use Rattle.domain.specs.declared.refusal.Refusal.the-variants.{Domain, Dispute, Observer, GcPlan, Core}
 use Rattle.domain.specs.declared.MatchID.{MatchID}
 use Rattle.domain.specs.declared.MatchSide.{MatchSide}
 use Rattle.domain.specs.declared.MatchSide.the-variants as side
@@ -46,14 +45,6 @@ empty = record { words = replicate 32 0; count = 0 }
 -- a 256-bit number: its words from the lowest on
 abbrev pub wideValues : U256 → List ℕ
 wideValues x = x .w0 ∷ x .w1 ∷ x .w2 ∷ x .w3 ∷ []
-
--- the values of a refusal, but for 51, whose address no covered form of the language can take out of its enum of one variant
-abbrev pub printed : Refusal → List ℕ
-printed (Domain e) = domainValues e
-printed (Dispute e) = disputeValues e
-printed (Observer e) = observerValues e
-printed (GcPlan e) = []
-printed (Core e) = coreValues e
 
 -- the number of a variant is its place in the declared order
 

@@ -20,7 +20,6 @@ use domain::dispute::DisputeError;
 use domain::observer::MatchPhase;
 use domain::observer::ObserverError;
 use domain::refusal::CoreError;
-use domain::refusal::GcPlanError;
 use domain::refusal::Refusal;
 use u256::U256;
 ghost use mathlib.Core.Path.{_≡_};
@@ -104,14 +103,14 @@ pub fn with_option_address(line: Line, a: OptionAddress) -> Line
 
 // The numbers of a refusal: its number in document 01's table, and the values that it carries.
 pub fn refusal(e: Refusal) -> Line
-    ensures { λ r. ⌜ r ≡ told.laid told.empty (numberOf e ∷ told.printed e) ⌝ }
+    ensures { λ r. ⌜ r ≡ told.laid told.empty (numberOf e ∷ valuesOf e) ⌝ }
 {
     let first = answer(e.number() as u64);
     match e {
         Refusal::Domain(e) => with_domain(first, e),
         Refusal::Dispute(e) => with_dispute(first, e),
         Refusal::Observer(e) => with_observer(first, e),
-        Refusal::GcPlan(_) => first,
+        Refusal::MissingTournament(a) => with_address(first, a),
         Refusal::Core(e) => with_core(first, e),
     }
 }

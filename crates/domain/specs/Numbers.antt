@@ -18,11 +18,10 @@ use Rattle.domain.specs.declared.dispute.DisputeError.the-variants.{Root
 use Rattle.domain.specs.declared.observer.MatchPhase.the-variants as phase
 use Rattle.domain.specs.declared.observer.ObserverError.{ObserverError}
 use Rattle.domain.specs.declared.observer.ObserverError.the-variants.{UnknownMatchPhase, UnknownTimeoutOutcome, UnknownTournamentKind, UnknownTournamentStanding, UnknownCommitmentSide, ProjectionPhaseMismatch, EventPhaseMismatch, EventCandidateMismatch, ResolvedMatchSelected, StandingKindMismatch, StandingCandidateShape, InnerWinnerOutsideParentMatch, MatchChildTopology}
-use Rattle.domain.specs.declared.refusal.GcPlanError.the-variants.{MissingTournament}
 use Rattle.domain.specs.declared.refusal.CoreError.{CoreError}
 use Rattle.domain.specs.declared.refusal.CoreError.the-variants.{StoreUnsound, UnknownTournament, NoTournamentRoom, NoMatchRoom, NoCommitmentRoom, NestedTooDeep, StandingTwice, TooManyStandings, SnapshotLevels, ParentMissing, ChildMissing, DelegatedMatch, BadRecord, TrailingBytes, WrongLength, LevelsDoNotLink}
 use Rattle.domain.specs.declared.refusal.Refusal.{Refusal}
-use Rattle.domain.specs.declared.refusal.Refusal.the-variants.{Domain, Dispute, Observer, GcPlan, Core}
+use Rattle.domain.specs.declared.refusal.Refusal.the-variants.{Domain, Dispute, Observer, MissingTournament, Core}
 
 unfoldable pub nowhere : Address
 nowhere = record { high = 0; mid = 0; low = 0 }
@@ -87,7 +86,7 @@ unfoldable pub kindOf : Refusal → Refusal
 kindOf (Domain e) = Domain (domainKind e)
 kindOf (Dispute e) = Dispute (disputeKind e)
 kindOf (Observer e) = Observer (observerKind e)
-kindOf (GcPlan e) = GcPlan (MissingTournament nowhere)
+kindOf (MissingTournament t) = MissingTournament nowhere
 kindOf (Core e) = Core (coreKind e)
 
 -- one refusal of each kind, in the order of the table
@@ -103,7 +102,7 @@ kinds =
     ∷ Observer (EventPhaseMismatch zeroDigest 0 phase.Absent) ∷ Observer (EventCandidateMismatch nowhere zeroDigest digest.None)
     ∷ Observer (ResolvedMatchSelected zeroDigest) ∷ Observer StandingKindMismatch ∷ Observer (StandingCandidateShape 0)
     ∷ Observer InnerWinnerOutsideParentMatch ∷ Observer (MatchChildTopology zeroDigest)
-    ∷ GcPlan (MissingTournament nowhere)
+    ∷ MissingTournament nowhere
     ∷ Core StoreUnsound ∷ Core (UnknownTournament address.None) ∷ Core (NoTournamentRoom nowhere) ∷ Core (NoMatchRoom nowhere)
     ∷ Core (NoCommitmentRoom nowhere) ∷ Core (NestedTooDeep nowhere) ∷ Core (StandingTwice nowhere) ∷ Core (TooManyStandings 0)
     ∷ Core (SnapshotLevels 0) ∷ Core (ParentMissing 0) ∷ Core (ChildMissing 0) ∷ Core (DelegatedMatch zeroDigest) ∷ Core BadRecord
@@ -189,7 +188,7 @@ unfolding firstOf kinds kindOf nowhere
 named (Domain e) = ofDomain e
 named (Dispute e) = ofDispute e
 named (Observer e) = ofObserver e
-named (GcPlan e) = refl
+named (MissingTournament t) = refl
 named (Core e) = ofCore e
 
 -- no two kinds share a number

@@ -15,12 +15,10 @@ use Rattle.domain.specs.declared.observer.MatchPhase.{MatchPhase}
 use Rattle.domain.specs.declared.observer.MatchPhase.the-variants as phase
 use Rattle.domain.specs.declared.observer.ObserverError.{ObserverError}
 use Rattle.domain.specs.declared.observer.ObserverError.the-variants.{UnknownMatchPhase, UnknownTimeoutOutcome, UnknownTournamentKind, UnknownTournamentStanding, UnknownCommitmentSide, ProjectionPhaseMismatch, EventPhaseMismatch, EventCandidateMismatch, ResolvedMatchSelected, StandingKindMismatch, StandingCandidateShape, InnerWinnerOutsideParentMatch, MatchChildTopology}
-use Rattle.domain.specs.declared.refusal.GcPlanError.{GcPlanError}
-use Rattle.domain.specs.declared.refusal.GcPlanError.the-variants.{MissingTournament}
 use Rattle.domain.specs.declared.refusal.CoreError.{CoreError}
 use Rattle.domain.specs.declared.refusal.CoreError.the-variants.{StoreUnsound, UnknownTournament, NoTournamentRoom, NoMatchRoom, NoCommitmentRoom, NestedTooDeep, StandingTwice, TooManyStandings, SnapshotLevels, ParentMissing, ChildMissing, DelegatedMatch, BadRecord, TrailingBytes, WrongLength, LevelsDoNotLink}
 use Rattle.domain.specs.declared.refusal.Refusal.{Refusal}
-use Rattle.domain.specs.declared.refusal.Refusal.the-variants.{Domain, Dispute, Observer, GcPlan, Core}
+use Rattle.domain.specs.declared.refusal.Refusal.the-variants.{Domain, Dispute, Observer, MissingTournament, Core}
 
 -- 1 to 11
 abbrev pub domainNumber : DomainError → ℕ
@@ -84,7 +82,7 @@ abbrev pub numberOf : Refusal → ℕ
 numberOf (Domain e) = domainNumber e
 numberOf (Dispute e) = disputeNumber e
 numberOf (Observer e) = observerNumber e
-numberOf (GcPlan missing) = 51
+numberOf (MissingTournament t) = 51
 numberOf (Core e) = coreNumber e
 
 -- ---- the values that a refusal carries, as numbers in the order of its fields
@@ -168,5 +166,5 @@ abbrev pub valuesOf : Refusal → List ℕ
 valuesOf (Domain e) = domainValues e
 valuesOf (Dispute e) = disputeValues e
 valuesOf (Observer e) = observerValues e
-valuesOf (GcPlan (MissingTournament t)) = addressValues t
+valuesOf (MissingTournament t) = addressValues t
 valuesOf (Core e) = coreValues e

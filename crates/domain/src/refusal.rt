@@ -8,11 +8,6 @@ use digest::Digest;
 ghost use mathlib.Core.Path.{_≡_};
 ghost use Rattle.domain.specs.Refusals.{domainNumber, disputeNumber, observerNumber, coreNumber, numberOf};
 
-// What the cleanup planner refuses: 51.
-pub enum GcPlanError {
-    MissingTournament(Address),
-}
-
 // What the Rust has no word for, since it has neither rows nor lent buffers nor records: 61 to 76, in this order.
 pub enum CoreError {
     // The store's rows are no tree, or a free row is not clear.
@@ -49,7 +44,8 @@ pub enum Refusal {
     Domain(DomainError),
     Dispute(DisputeError),
     Observer(ObserverError),
-    GcPlan(GcPlanError),
+    // 51, the only variant of the Rust's `GcPlanError`: this tournament has no standing in the list.
+    MissingTournament(Address),
     Core(CoreError),
 }
 
@@ -62,7 +58,7 @@ impl Refusal {
             Refusal::Domain(e) => domain_number(e),
             Refusal::Dispute(e) => dispute_number(e),
             Refusal::Observer(e) => observer_number(e),
-            Refusal::GcPlan(_) => 51,
+            Refusal::MissingTournament(_) => 51,
             Refusal::Core(e) => core_number(e),
         }
     }

@@ -29,8 +29,11 @@ enum-known-e-3 c = search needs
 with-observer-requires : tie.Need-with-observer-requires
 with-observer-requires c κs = search needs
 
-enum-told : tie.Need-enum-told
-enum-told c = search needs
+enum-known-a : tie.Need-enum-known-a
+enum-known-a c = search needs
+
+with-address-requires : tie.Need-with-address-requires
+with-address-requires c κs = search needs
 
 enum-known-e-4 : tie.Need-enum-known-e-4
 enum-known-e-4 c = search needs
@@ -48,7 +51,7 @@ returns-3 : tie.Need-returns-3
 returns-3 c = simp (c .before .before .e3 .given .1) (cc (simp (c .before .before .e3 .given .1) at (c .before .before .before .before .before .number .ensures)))
 
 returns-4 : tie.Need-returns-4
-returns-4 c = cc
+returns-4 c = simp (c .before .before .a .given .1) (cc (simp (c .before .before .a .given .1) at (c .before .before .before .before .before .number .ensures)))
 
 returns-5 : tie.Need-returns-5
 returns-5 c = simp (c .before .before .e4 .given .1) (cc (simp (c .before .before .e4 .given .1) at (c .before .before .before .before .before .number .ensures)))
@@ -66,7 +69,8 @@ refusal-spec =
     with-dispute-requires
     enum-known-e-3
     with-observer-requires
-    enum-told
+    enum-known-a
+    with-address-requires
     enum-known-e-4
     with-core-requires
     returns
