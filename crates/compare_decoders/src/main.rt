@@ -13,11 +13,11 @@ use observer::DescriptorView;
 use observer::EventChecked;
 use observer::ReadyToSealMatchView;
 use observer::SealedMatchView;
-use observer::StandingDecoded;
-use observer::StandingView;
 use observer::StateDecoded;
 use observer::TimeoutDecoded;
 use observer::TimeoutView;
+use standings::StandingDecoded;
+use standings::StandingView;
 ghost use mathlib.Core.Path.{_≡_};
 ghost use lib.ListN.{length};
 
@@ -229,7 +229,7 @@ fn of_tournament(op: u8, request: &[u8]) -> Line {
             descriptor_view(request),
         ))
     } else if op == 1 {
-        standing(observer::decode_standing(
+        standing(standings::decode_standing(
             requests::descriptor_at(request, DESCRIPTOR),
             parent(request),
             standing_view(request),
@@ -254,7 +254,7 @@ fn of_view(op: u8, request: &[u8], hash: Digest) -> Line {
 // Questions 6 to 8: the candidate, the event phase and the whole match.
 fn of_match(op: u8, request: &[u8], hash: Digest) -> Line {
     if op == 6 {
-        checked(observer::check_candidate(
+        checked(standings::check_candidate(
             requests::address_at(request, DESCRIPTOR),
             hash,
             requests::standing_at(request, STANDING),

@@ -17,8 +17,6 @@ use Rattle.observer.specs.declared.TimeoutDecoded.{TimeoutDecoded}
 use Rattle.observer.specs.declared.TimeoutDecoded.the-variants as Timeout
 use Rattle.observer.specs.declared.StateDecoded.{StateDecoded}
 use Rattle.observer.specs.declared.StateDecoded.the-variants as State
-use Rattle.observer.specs.declared.StandingDecoded.{StandingDecoded}
-use Rattle.observer.specs.declared.StandingDecoded.the-variants as Standing
 use Rattle.observer.specs.declared.EventChecked.{EventChecked}
 use Rattle.observer.specs.declared.EventChecked.the-variants as Event
 
@@ -55,10 +53,6 @@ ofTimeout (Timeout.Refused e) = some e
 abbrev pub ofState : StateDecoded → Option Refusal
 ofState (State.State s) = none
 ofState (State.Refused e) = some e
-
-abbrev pub ofStanding : StandingDecoded → Option Refusal
-ofStanding (Standing.Standing s) = none
-ofStanding (Standing.Refused e) = some e
 
 abbrev pub ofEvent : EventChecked → Option Refusal
 ofEvent Event.Accepted = none

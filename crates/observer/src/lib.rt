@@ -5,20 +5,13 @@
 // descriptor tests it first (1 to 3), since a descriptor here is plain data where the Rust's has passed that test when it was made.
 use digest::Digest;
 use domain::Address;
-use domain::InnerEliminationReason;
-use domain::InnerWinner;
 use domain::LiveMatchState;
 use domain::MatchCoordinate;
-use domain::MatchID;
 use domain::MatchSide;
-use domain::OptionDigest;
-use domain::OptionMatchID;
-use domain::RootWinner;
 use domain::SealedDivergence;
 use domain::TimeoutDisposition;
 use domain::TournamentDescriptor;
 use domain::TournamentKind;
-use domain::TournamentStanding;
 use domain::UnresolvedMatch;
 use domain::WaitingChildren;
 use domain::observer::MatchPhase;
@@ -30,7 +23,6 @@ ghost use mathlib.Core.Path.{_≡_};
 ghost use Rattle.domain.specs.Refusals.{phaseNumber};
 ghost use Rattle.observer.specs.Numbers.{decodeMatchPhase, decodeTournamentKind, decodeSide};
 ghost use Rattle.observer.specs.Views.{tested, decodeDescriptor, timeoutRead, timeoutIn, decodeTimeout, shows, checkProjection, childTopology, unresolved, bisecting, decodeBisecting, readyIn, ready, decodeReady, divergence, sealedIn, decodeSealed};
-ghost use Rattle.observer.specs.Standing.{standingRules, illegal, unknownStanding, withCandidate, ofMatch, active, innerWinner, rootStanding, innerStanding, decodeStanding, candidateFits, expectCandidate, checkCandidate};
 
 // ---- What a contract answers: the fields of its views, a name as a number.
 
@@ -41,15 +33,6 @@ pub struct DescriptorView {
     pub base_cycle: U256,
     pub log2_stride: u64,
     pub height: u64,
-}
-
-pub struct StandingView {
-    pub standing: u8,
-    pub accepts_joins: bool,
-    pub has_candidate: bool,
-    pub candidate: Digest,
-    pub final_state: Digest,
-    pub parent_commitment: Digest,
 }
 
 pub struct TimeoutView {
@@ -125,11 +108,6 @@ pub enum StateDecoded {
     Refused(Refusal),
 }
 
-pub enum StandingDecoded {
-    Standing(TournamentStanding),
-    Refused(Refusal),
-}
-
 // A check that gives no value.
 pub enum EventChecked {
     Accepted,
@@ -137,27 +115,6 @@ pub enum EventChecked {
 }
 
 // ---- Entries.
-
-// Whether an active standing has the expected candidate: 38 where it has none or another. Every other standing is accepted.
-pub fn check_candidate(
-    tournament: Address,
-    expected: Digest,
-    standing: TournamentStanding,
-) -> EventChecked
-    ensures { λ r. ⌜ r ≡ checkCandidate tournament expected standing ⌝ }
-{
-    match standing {
-        TournamentStanding::MatchesActive {
-            accepts_joins: _,
-            candidate,
-        } => expect_candidate(tournament, expected, candidate),
-        TournamentStanding::AwaitingClosure => EventChecked::Accepted,
-        TournamentStanding::RootWinner(_) => EventChecked::Accepted,
-        TournamentStanding::RootFailed => EventChecked::Accepted,
-        TournamentStanding::InnerWinner(_) => EventChecked::Accepted,
-        TournamentStanding::InnerEliminable { reason: _ } => EventChecked::Accepted,
-    }
-}
 
 // A tournament's descriptor: its kind's number (33), then 1 to 3.
 pub fn decode_descriptor(address: Address, view: DescriptorView) -> DescriptorDecoded
@@ -178,21 +135,6 @@ pub fn decode_descriptor(address: Address, view: DescriptorView) -> DescriptorDe
                 height: view.height,
             })
         }
-    }
-}
-
-// A tournament's standing, as its place in the tree lets it be: 1 to 3; 40 for a root with a parent match or an inner tournament
-// without; then by its number (34), its place (40), the parent commitment (42) and the candidate (41).
-pub fn decode_standing(
-    descriptor: TournamentDescriptor,
-    parent_match: OptionMatchID,
-    view: StandingView,
-) -> StandingDecoded
-    ensures { λ r. ⌜ r ≡ decodeStanding descriptor «parent_match» view ⌝ }
-{
-    match geometry::check_descriptor(descriptor) {
-        Checked::Refused(e) => StandingDecoded::Refused(Refusal::Domain(e)),
-        Checked::Accepted => standing_at(descriptor.is_root(), parent_match, view),
     }
 }
 
@@ -461,190 +403,5 @@ fn tested(descriptor: TournamentDescriptor) -> DescriptorDecoded
     match geometry::check_descriptor(descriptor) {
         Checked::Refused(e) => DescriptorDecoded::Refused(Refusal::Domain(e)),
         Checked::Accepted => DescriptorDecoded::Descriptor(descriptor),
-    }
-}
-
-// ---- Standings.
-
-// The standing at a place: 40 for a root with a parent match, or an inner tournament without.
-fn standing_at(root: bool, parent_match: OptionMatchID, view: StandingView) -> StandingDecoded
-    ensures { λ r. ⌜ r ≡ standingRules root «parent_match» view ⌝ }
-{
-    match parent_match {
-        OptionMatchID::None => { if root { root_standing(view) } else { illegal() } }
-        OptionMatchID::Some(id) => {
-            if root {
-                illegal()
-            } else {
-                inner_standing(id, view)
-            }
-        }
-    }
-}
-
-// The standing of a root: 34 for an unknown number, 40 for 4 to 6, 41 for a winner that is missing.
-fn root_standing(view: StandingView) -> StandingDecoded
-    ensures { λ r. ⌜ r ≡ rootStanding view ⌝ }
-{
-    let standing = view.standing;
-    match standing {
-        0 => active(view),
-        1 => StandingDecoded::Standing(TournamentStanding::AwaitingClosure),
-        2 => {
-            let commitment = view.candidate;
-            let final_state = view.final_state;
-            with_candidate(
-                view,
-                TournamentStanding::RootWinner(RootWinner {
-                    commitment,
-                    final_state,
-                }),
-            )
-        }
-        3 => StandingDecoded::Standing(TournamentStanding::RootFailed),
-        4 => illegal(),
-        5 => illegal(),
-        6 => illegal(),
-        other => unknown_standing(other),
-    }
-}
-
-// The standing of a child of this match: 34 for an unknown number, 40 for 2 and 3, 42 and then 41 for a winner that does not fit.
-fn inner_standing(parent_match: MatchID, view: StandingView) -> StandingDecoded
-    ensures { λ r. ⌜ r ≡ innerStanding «parent_match» view ⌝ }
-{
-    let standing = view.standing;
-    match standing {
-        0 => active(view),
-        1 => StandingDecoded::Standing(TournamentStanding::AwaitingClosure),
-        2 => illegal(),
-        3 => illegal(),
-        4 => inner_winner(parent_match, view),
-        5 => StandingDecoded::Standing(TournamentStanding::InnerEliminable {
-            reason: InnerEliminationReason::NoCandidate,
-        }),
-        6 => {
-            let candidate = view.candidate;
-            with_candidate(
-                view,
-                TournamentStanding::InnerEliminable {
-                    reason: InnerEliminationReason::WinnerExpired { candidate },
-                },
-            )
-        }
-        other => unknown_standing(other),
-    }
-}
-
-// The child's winner, which speaks for one of the two commitments of the match above (42) and is there (41).
-fn inner_winner(parent_match: MatchID, view: StandingView) -> StandingDecoded
-    ensures { λ r. ⌜ r ≡ innerWinner «parent_match» view ⌝ }
-{
-    let parent_commitment = view.parent_commitment;
-    let child_commitment = view.candidate;
-    if in_match(parent_commitment, parent_match) {
-        with_candidate(
-            view,
-            TournamentStanding::InnerWinner(InnerWinner {
-                parent_commitment,
-                child_commitment,
-            }),
-        )
-    } else {
-        StandingDecoded::Refused(Refusal::Observer(ObserverError::InnerWinnerOutsideParentMatch))
-    }
-}
-
-// Matches are active, with the candidate that the view reports, if any.
-fn active(view: StandingView) -> StandingDecoded
-    ensures { λ r. ⌜ r ≡ active view ⌝ }
-{
-    let accepts_joins = view.accepts_joins;
-    let has_candidate = view.has_candidate;
-    let reported = view.candidate;
-    if has_candidate {
-        let candidate = OptionDigest::Some(reported);
-        StandingDecoded::Standing(TournamentStanding::MatchesActive {
-            accepts_joins,
-            candidate,
-        })
-    } else {
-        StandingDecoded::Standing(TournamentStanding::MatchesActive {
-            accepts_joins,
-            candidate: OptionDigest::None,
-        })
-    }
-}
-
-// A standing that needs the candidate that the view reports: 41 where it reports none.
-fn with_candidate(view: StandingView, standing: TournamentStanding) -> StandingDecoded
-    ensures { λ r. ⌜ r ≡ withCandidate view standing ⌝ }
-{
-    let has_candidate = view.has_candidate;
-    if has_candidate {
-        StandingDecoded::Standing(standing)
-    } else {
-        StandingDecoded::Refused(Refusal::Observer(ObserverError::StandingCandidateShape {
-            standing: view.standing,
-        }))
-    }
-}
-
-// Whether a commitment is one of the match's two.
-fn in_match(commitment: Digest, id: MatchID) -> bool
-    ensures { λ r. ⌜ r ≡ ofMatch commitment id ⌝ }
-{
-    if digest::equal(commitment, id.commitment_one) {
-        return true;
-    }
-    digest::equal(commitment, id.commitment_two)
-}
-
-// A standing that is not legal at this place: 40.
-fn illegal() -> StandingDecoded
-    ensures { λ r. ⌜ r ≡ illegal ⌝ }
-{
-    StandingDecoded::Refused(Refusal::Observer(ObserverError::StandingKindMismatch))
-}
-
-// A number that names no standing: 34.
-fn unknown_standing(standing: u8) -> StandingDecoded
-    ensures { λ r. ⌜ r ≡ unknownStanding standing ⌝ }
-{
-    StandingDecoded::Refused(Refusal::Observer(ObserverError::UnknownTournamentStanding(standing)))
-}
-
-// Whether the candidate of an active standing is the expected one: 38.
-fn expect_candidate(tournament: Address, expected: Digest, observed: OptionDigest) -> EventChecked
-    ensures { λ r. ⌜ r ≡ expectCandidate tournament expected observed ⌝ }
-{
-    match observed {
-        OptionDigest::None => candidate_fits(false, tournament, expected, OptionDigest::None),
-        OptionDigest::Some(candidate) => candidate_fits(
-            digest::equal(candidate, expected),
-            tournament,
-            expected,
-            OptionDigest::Some(candidate),
-        ),
-    }
-}
-
-// Accepted, or 38.
-fn candidate_fits(
-    fits: bool,
-    tournament: Address,
-    expected: Digest,
-    observed: OptionDigest,
-) -> EventChecked
-    ensures { λ r. ⌜ r ≡ candidateFits fits tournament expected observed ⌝ }
-{
-    if fits {
-        EventChecked::Accepted
-    } else {
-        EventChecked::Refused(Refusal::Observer(ObserverError::EventCandidateMismatch {
-            tournament,
-            expected,
-            observed,
-        }))
     }
 }

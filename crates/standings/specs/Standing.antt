@@ -21,12 +21,12 @@ use Rattle.domain.specs.declared.observer.ObserverError.{ObserverError}
 use Rattle.domain.specs.declared.observer.ObserverError.the-variants.{UnknownTournamentStanding, EventCandidateMismatch, StandingKindMismatch, StandingCandidateShape, InnerWinnerOutsideParentMatch}
 use Rattle.domain.specs.declared.refusal.Refusal.the-variants.{Observer}
 use Rattle.geometry.specs.Geometry.{checkDescriptor}
 use Rattle.observer.specs.After as after
-use Rattle.observer.specs.declared.StandingView.{StandingView}
-use Rattle.observer.specs.declared.StandingDecoded.{StandingDecoded}
-use Rattle.observer.specs.declared.StandingDecoded.the-variants.{Standing, Refused}
+use Rattle.standings.specs.declared.StandingView.{StandingView}
+use Rattle.standings.specs.declared.StandingDecoded.{StandingDecoded}
+use Rattle.standings.specs.declared.StandingDecoded.the-variants.{Standing, Refused}
 use Rattle.observer.specs.declared.EventChecked.{EventChecked}
 use Rattle.observer.specs.declared.EventChecked.the-variants as event
 
 -- one rule: refused with e where the test holds, and otherwise as the rest says
 abbrev pub refuse : Bool → ObserverError → StandingDecoded → StandingDecoded

@@ -1,7 +1,7 @@
 -- By the test. Assumes nothing.
 use borrow.Author.Needs.{needs}
-use Rattle.observer.proofs.candidate_fits.Statement.{statement}
-use Rattle.observer.proofs.candidate_fits.Tie as tie
+use Rattle.standings.proofs.candidate_fits.Statement.{statement}
+use Rattle.standings.proofs.candidate_fits.Tie as tie
 
 returns : tie.Need-returns
 returns c = search needs

@@ -1,7 +1,7 @@
 -- The parent commitment, and then the candidate. Assumes nothing.
 use borrow.Author.Needs.{needs}
-use Rattle.observer.proofs.inner_winner.Statement.{statement}
-use Rattle.observer.proofs.inner_winner.Tie as tie
+use Rattle.standings.proofs.inner_winner.Statement.{statement}
+use Rattle.standings.proofs.inner_winner.Tie as tie
 
 in-match-requires : tie.Need-in-match-requires
 in-match-requires c κs = search needs

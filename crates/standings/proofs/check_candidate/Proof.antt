@@ -1,7 +1,7 @@
 -- By the standing. Assumes nothing.
 use borrow.Author.Needs.{needs}
-use Rattle.observer.proofs.check_candidate.Statement.{statement}
-use Rattle.observer.proofs.check_candidate.Tie as tie
+use Rattle.standings.proofs.check_candidate.Statement.{statement}
+use Rattle.standings.proofs.check_candidate.Tie as tie
 
 enum-known-standing : tie.Need-enum-known-standing
 enum-known-standing c = search needs

@@ -1,10 +1,10 @@
 -- By the number. Assumes nothing.
 use borrow.Author.Tests.{lt-ltb}
 use borrow.Author.Needs.{needs}
 use Rattle.observer.specs.Laws.{past}
-use Rattle.observer.specs.Standing.{standingRules}
-use Rattle.observer.proofs.inner_standing.Statement.{statement}
-use Rattle.observer.proofs.inner_standing.Tie as tie
+use Rattle.standings.specs.Standing.{standingRules}
+use Rattle.standings.proofs.inner_standing.Statement.{statement}
+use Rattle.standings.proofs.inner_standing.Tie as tie
 
 active-requires : tie.Need-active-requires
 active-requires c κs = search needs

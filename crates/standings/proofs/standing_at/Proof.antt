@@ -1,8 +1,8 @@
 -- By the parent match and the place. Assumes nothing.
 use borrow.Author.Needs.{needs}
-use Rattle.observer.specs.Standing.{standingRules}
-use Rattle.observer.proofs.standing_at.Statement.{statement}
-use Rattle.observer.proofs.standing_at.Tie as tie
+use Rattle.standings.specs.Standing.{standingRules}
+use Rattle.standings.proofs.standing_at.Statement.{statement}
+use Rattle.standings.proofs.standing_at.Tie as tie
 
 enum-told : tie.Need-enum-told
 enum-told c = search needs

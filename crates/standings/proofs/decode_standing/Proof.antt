@@ -1,8 +1,8 @@
 -- The descriptor, and then the standing. Assumes nothing.
 use borrow.Author.Needs.{needs}
-use Rattle.observer.specs.Standing.{decodeStanding}
-use Rattle.observer.proofs.decode_standing.Statement.{statement}
-use Rattle.observer.proofs.decode_standing.Tie as tie
+use Rattle.standings.specs.Standing.{decodeStanding}
+use Rattle.standings.proofs.decode_standing.Statement.{statement}
+use Rattle.standings.proofs.decode_standing.Tie as tie
 
 check-descriptor-requires : tie.Need-check-descriptor-requires
 check-descriptor-requires c κs = search needs

@@ -1,7 +1,7 @@
 -- By whether there is a candidate. Assumes nothing.
 use borrow.Author.Needs.{needs}
-use Rattle.observer.proofs.expect_candidate.Statement.{statement}
-use Rattle.observer.proofs.expect_candidate.Tie as tie
+use Rattle.standings.proofs.expect_candidate.Statement.{statement}
+use Rattle.standings.proofs.expect_candidate.Tie as tie
 
 enum-told : tie.Need-enum-told
 enum-told c = search needs

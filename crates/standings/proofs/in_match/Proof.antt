@@ -1,7 +1,7 @@
 -- By the first commitment, and then the second. Assumes nothing.
 use borrow.Author.Needs.{needs}
-use Rattle.observer.proofs.in_match.Statement.{statement}
-use Rattle.observer.proofs.in_match.Tie as tie
+use Rattle.standings.proofs.in_match.Statement.{statement}
+use Rattle.standings.proofs.in_match.Tie as tie
 
 equal-requires : tie.Need-equal-requires
 equal-requires c κs = search needs
