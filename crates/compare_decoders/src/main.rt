@@ -167,15 +167,15 @@ fn phase(request: &[u8]) -> MatchPhase {
 
 fn described(d: DescriptorDecoded) -> Line {
     match d {
-        DescriptorDecoded::Descriptor(d) => answers::with_descriptor(answers::answer(0), d),
-        DescriptorDecoded::Refused(e) => answers::refusal(e),
+        DescriptorDecoded::Descriptor(d) => states::with_descriptor(answers::answer(0), d),
+        DescriptorDecoded::Refused(e) => refusals::refusal(e),
     }
 }
 
 fn standing(s: StandingDecoded) -> Line {
     match s {
-        StandingDecoded::Standing(s) => answers::with_standing(answers::answer(0), s),
-        StandingDecoded::Refused(e) => answers::refusal(e),
+        StandingDecoded::Standing(s) => states::with_standing(answers::answer(0), s),
+        StandingDecoded::Refused(e) => refusals::refusal(e),
     }
 }
 
@@ -189,21 +189,21 @@ fn timeout(t: TimeoutDecoded) -> Line {
                 answers::timeout_number(disposition),
             )
         }
-        TimeoutDecoded::Refused(e) => answers::refusal(e),
+        TimeoutDecoded::Refused(e) => refusals::refusal(e),
     }
 }
 
 fn state(s: StateDecoded) -> Line {
     match s {
-        StateDecoded::State(s) => answers::with_state(answers::answer(0), s),
-        StateDecoded::Refused(e) => answers::refusal(e),
+        StateDecoded::State(s) => states::with_state(answers::answer(0), s),
+        StateDecoded::Refused(e) => refusals::refusal(e),
     }
 }
 
 fn checked(c: EventChecked) -> Line {
     match c {
         EventChecked::Accepted => answers::answer(0),
-        EventChecked::Refused(e) => answers::refusal(e),
+        EventChecked::Refused(e) => refusals::refusal(e),
     }
 }
 
@@ -213,11 +213,11 @@ fn read(m: MatchRead) -> Line {
             let state = m.state;
             let timeout = m.timeout;
             answers::with(
-                answers::with_state(answers::answer(0), state),
+                states::with_state(answers::answer(0), state),
                 answers::timeout_number(timeout),
             )
         }
-        MatchRead::Refused(e) => answers::refusal(e),
+        MatchRead::Refused(e) => refusals::refusal(e),
     }
 }
 

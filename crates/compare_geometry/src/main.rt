@@ -16,7 +16,7 @@ fn blank() -> [u8; 409]
 fn checked(c: Checked) -> Line {
     match c {
         Checked::Accepted => answers::answer(0),
-        Checked::Refused(e) => answers::refusal(Refusal::Domain(e)),
+        Checked::Refused(e) => refusals::refusal(Refusal::Domain(e)),
     }
 }
 

@@ -185,7 +185,7 @@ fn with_wait(line: Line, reason: WaitReason) -> Line {
         }
         WaitReason::MatchEliminable => answers::with(line, 5),
         WaitReason::ChildEliminable { reason } => {
-            answers::with_elimination(answers::with(line, 6), reason)
+            states::with_elimination(answers::with(line, 6), reason)
         }
     }
 }
@@ -247,14 +247,14 @@ fn decided(decision: HeroDecision) -> Line {
 fn planned(s: SemanticSnapshot) -> Line {
     match planner::plan_hero(s) {
         HeroPlanned::Decided(decision) => decided(decision),
-        HeroPlanned::Refused(e) => answers::refusal(e),
+        HeroPlanned::Refused(e) => refusals::refusal(e),
     }
 }
 
 fn linked(s: SemanticSnapshot) -> Line {
     match links::check_links(s) {
         Linked::Links => answers::answer(0),
-        Linked::Refused(e) => answers::refusal(e),
+        Linked::Refused(e) => refusals::refusal(e),
     }
 }
 

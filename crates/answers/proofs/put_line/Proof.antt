@@ -6,10 +6,10 @@ use Rattle.answers.proofs.put_line.Statement.{statement}
 use Rattle.answers.proofs.put_line.Tie as tie
 
 abbrev Inv-loop : tie.InvT-loop
-Inv-loop text₀ words end at₀ i₀ text at i = (length text ≡ length text₀) × (at ≤ length text) × (i ≤ 32)
+Inv-loop text₀ last words end at₀ i₀ text at i = (length text ≡ length text₀) × (at ≤ length text) × (i ≤ 32)
 
 abbrev μ-loop : tie.MeasureT-loop
-μ-loop text₀ words end at₀ i₀ text at i = i
+μ-loop text₀ last words end at₀ i₀ text at i = i
 
 put-byte-requires : tie.Need-put-byte-requires Inv-loop μ-loop
 put-byte-requires c κs = search needs
