@@ -1,12 +1,13 @@
 //! The oracle of the comparison: the originals, compiled unchanged, behind the wire form that README.md describes.
 //!
 //! `oracle generate PROGRAM SEED SIZE` writes requests to standard output, and `oracle answer PROGRAM` reads requests from
-//! standard input and prints the originals' answers, one line each.
+//! standard input and prints the originals' answers, one line each. `oracle fold` and `oracle bench` are the Rust side of bench/run.
 #![allow(dead_code, explicit_builtin_cfgs_in_flags)]
 
 include!(concat!(env!("OUT_DIR"), "/originals.rs"));
 
 mod answer;
+mod bench;
 mod chain;
 mod generate;
 mod random;
@@ -21,10 +22,11 @@ fn answers(program: &str, input: &[u8]) -> String {
         "geometry" => answer::each(input, requests::GEOMETRY, answer::geometry::answer),
         "decoders" => answer::each(input, requests::DECODERS, answer::decoders::answer),
         "hero" => answer::each(input, requests::HERO, answer::hero::answer),
-        "dispute" => {
+        "dispute" | "cleanup" => {
             let mut state = answer::dispute::State::default();
             answer::each(input, requests::DISPUTE, |request| state.answer(request))
         }
+        "fold" => answer::dispute::fold(input),
         _ => panic!("no program {program}"),
     }
 }
@@ -60,8 +62,9 @@ fn main() {
             std::io::stdin().lock().read_to_end(&mut input).unwrap();
             out.write_all(answers(program, &input).as_bytes()).unwrap();
         }
+        ["fold"] => bench::fold(&mut std::io::stdin().lock(), &mut out).unwrap(),
         _ => {
-            eprintln!("usage: oracle generate PROGRAM SEED SIZE | oracle answer PROGRAM");
+            eprintln!("usage: oracle generate PROGRAM SEED SIZE | oracle answer PROGRAM | oracle fold");
             std::process::exit(2);
         }
     }

@@ -66,18 +66,34 @@ impl Record {
     }
 }
 
-/// A stream as it grows.
-#[derive(Default)]
+/// The questions of the two programs over a running dispute.
+pub const DISPUTE: &[u8] = &[0, 1, 2, 3, 5, 9];
+pub const CLEANUP: &[u8] = &[0, 4, 6, 7, 8];
+/// Of the program `fold`, which takes the records alone.
+const FOLD: &[u8] = &[0];
+
+/// A stream as it grows. Questions of another program are answered and left out.
 struct Stream {
+    questions: &'static [u8],
     running: Running,
     out: Vec<Vec<u8>>,
 }
 
 impl Stream {
+    fn of(questions: &'static [u8]) -> Self {
+        Self {
+            questions,
+            running: Running::default(),
+            out: vec![],
+        }
+    }
+
     fn ask(&mut self, question: Dispute) {
         let bytes = question.bytes();
         let _ = self.running.answer(&bytes);
-        self.out.push(bytes);
+        if self.questions.contains(&question.op) {
+            self.out.push(bytes);
+        }
     }
 
     fn question(op: u8) -> Dispute {
@@ -377,12 +393,101 @@ fn full(stream: &mut Stream) {
     stream.look(root, a);
 }
 
-pub fn fixed() -> Vec<Vec<u8>> {
-    let mut stream = Stream::default();
+pub fn fixed(questions: &'static [u8]) -> Vec<Vec<u8>> {
+    let mut stream = Stream::of(questions);
     rows(&mut stream);
     records(&mut stream);
     full(&mut stream);
     stream.out
+}
+
+/// Every event of an empty store, and document 01's listing.
+fn empty(stream: &mut Stream) {
+    let root = address(1);
+    let a = digest(1);
+    for kind in 1..=6 {
+        stream.tell(Record::of(kind, root));
+    }
+    let mut deep = table();
+    deep.level = 1;
+    stream.tell(Record {
+        descriptor: deep,
+        ..Record::of(0, root)
+    });
+    stream.open(root);
+    stream.join(root, a);
+    stream.join(root, a);
+}
+
+/// All three kinds of rows full at once, one more of each, and an opening over them.
+fn brim(stream: &mut Stream) {
+    let root = address(1);
+    let b = digest(2);
+    stream.open(root);
+    stream.join(root, b);
+    for n in 0..127 {
+        stream.join(root, digest(100 + n));
+        stream.create(root, digest(100 + n), b, n);
+        if n < 31 {
+            stream.inner(root, digest(100 + n), b, address(100 + n), 1);
+        }
+    }
+    for n in 0..128 {
+        stream.join(address(100), digest(300 + n));
+    }
+    stream.create(address(100), digest(300), digest(301), 7);
+    // Full: a join, a match and a child too many, at the root and beneath it.
+    for at in [root, address(100), address(130)] {
+        stream.join(at, digest(900));
+        stream.create(at, digest(300), digest(301), 8);
+        stream.inner(at, digest(300), digest(301), address(140), 1);
+    }
+    stream.inner(root, digest(131), b, address(140), 1);
+    stream.inner(root, digest(100), b, address(140), 1);
+    stream.join(root, b);
+    stream.create(root, digest(901), b, 9);
+    // One branch is freed: its rows are taken again, and no more.
+    stream.delete(root, digest(100), b, 2, 1);
+    for n in 0..130 {
+        stream.join(address(101), digest(500 + n));
+    }
+    stream.create(address(101), digest(500), digest(501), 7);
+    stream.create(address(101), digest(500), digest(501), 7);
+    stream.inner(address(101), digest(500), digest(501), address(141), 2);
+    stream.inner(root, digest(131), b, address(142), 1);
+    stream.open(root);
+    stream.join(root, b);
+}
+
+/// The records of a stream, without the questions' other bytes, and with some bytes after the last whole one.
+fn records_only(stream: Stream, after: usize) -> Vec<Vec<u8>> {
+    let mut records: Vec<Vec<u8>> = stream.out.into_iter().map(|question| question[1..177].to_vec()).collect();
+    records.push(vec![5; after]);
+    records
+}
+
+/// The fixed part for `fold`: document 01's listing, every number, every room filled, freed and filled again, and so many random
+/// records and junk.
+pub fn records_of_fold(size: usize) -> Vec<Vec<u8>> {
+    let mut stream = Stream::of(FOLD);
+    empty(&mut stream);
+    rows(&mut stream);
+    records(&mut stream);
+    full(&mut stream);
+    brim(&mut stream);
+    let mut random = Random::new(7);
+    for _ in 0..size / 20 {
+        stream.bytes(std::array::from_fn(|i| if i == 0 { random.below(8) as u8 } else { random.byte() }));
+    }
+    random_events(&mut random, &mut stream, size);
+    records_only(stream, 100)
+}
+
+pub fn random_records(random: &mut Random, size: usize) -> Vec<Vec<u8>> {
+    let mut stream = Stream::of(FOLD);
+    random_events(random, &mut stream, size);
+    let after = random.below(176) as usize;
+    records_only(stream, after)
 }
 
 /// How one stream is drawn: how many roots and addresses there are to meet, and how often each kind of event is told.
@@ -559,8 +664,15 @@ impl Draw {
     }
 }
 
-pub fn random(random: &mut Random, size: usize) -> Vec<Vec<u8>> {
-    let mut stream = Stream::default();
+pub fn random(random: &mut Random, questions: &'static [u8], size: usize) -> Vec<Vec<u8>> {
+    let mut stream = Stream::of(questions);
+    random_events(random, &mut stream, size);
+    stream.out
+}
+
+/// So many more requests: events, openings between them, and questions.
+fn random_events(random: &mut Random, stream: &mut Stream, size: usize) {
+    let size = stream.out.len() + size;
     while stream.out.len() < size {
         let draw = Draw::new(random);
         let opening = draw.address(random);
@@ -569,7 +681,7 @@ pub fn random(random: &mut Random, size: usize) -> Vec<Vec<u8>> {
             if stream.out.len() >= size {
                 break;
             }
-            let record = draw.record(random, &stream);
+            let record = draw.record(random, stream);
             let bytes = record.bytes();
             if random.once_in(25) {
                 let damaged = damaged(random, bytes.to_vec());
@@ -578,12 +690,11 @@ pub fn random(random: &mut Random, size: usize) -> Vec<Vec<u8>> {
                 stream.bytes(bytes);
             }
             if random.once_in(4) {
-                draw.questions(random, &mut stream);
+                draw.questions(random, stream);
             }
             if random.once_in(40) {
-                draw.cleanups(random, &mut stream);
+                draw.cleanups(random, stream);
             }
         }
     }
-    stream.out
 }

@@ -20,8 +20,12 @@ pub fn requests(program: &str, seed: u64, size: usize) -> Vec<u8> {
         ("decoders", _) => some(size, || decoders::random(&mut random)),
         ("hero", 0) => hero::fixed(size),
         ("hero", _) => some(size, || hero::random(&mut random)),
-        ("dispute", 0) => dispute::fixed(),
-        ("dispute", _) => dispute::random(&mut random, size),
+        ("dispute", 0) => dispute::fixed(dispute::DISPUTE),
+        ("dispute", _) => dispute::random(&mut random, dispute::DISPUTE, size),
+        ("cleanup", 0) => dispute::fixed(dispute::CLEANUP),
+        ("cleanup", _) => dispute::random(&mut random, dispute::CLEANUP, size),
+        ("fold", 0) => dispute::records_of_fold(size),
+        ("fold", _) => dispute::random_records(&mut random, size),
         _ => panic!("no program {program}"),
     };
     requests.concat()
