@@ -405,7 +405,7 @@ fn names(row: MatchRow, root: Digest) -> bool
 }
 
 // A link as a row's number, and n where it is an end.
-fn row_of(l: Link, n: usize) -> usize
+pub fn row_of(l: Link, n: usize) -> usize
     ensures { λ r. ⌜ r ≡ rowOr n l ⌝ }
 {
     match l {

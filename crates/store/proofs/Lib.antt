@@ -1,3 +1,2 @@
--- Laws that only the proofs of this crate need: of routing, and of freeing.
-pub mod Routing
+-- Laws that only the proofs of this crate need: of freeing.
 pub mod Freeing
