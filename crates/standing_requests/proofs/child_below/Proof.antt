@@ -1,0 +1,14 @@
+-- `child_below` answers the row of a match's child. Assumes nothing.
+use borrow.Author.Needs.{needs}
+use borrow.Author.Tests.{lt-ltb, le-ltb}
+use Rattle.standing_requests.proofs.child_below.Statement.{statement}
+use Rattle.standing_requests.proofs.child_below.Tie as tie
+
+returns : tie.Need-returns
+returns c = rw (lt-ltb _ _ (c .before .if1 .taken)) (c .child-row .ensures)
+
+returns-2 : tie.Need-returns-2
+returns-2 c = rw (le-ltb _ _ (c .if1 .left))
+
+pub child-below-spec : {M : Type 1} → statement M
+child-below-spec = tie.close (tie.spec (λ c κs. search needs) returns returns-2)
