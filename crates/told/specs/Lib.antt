@@ -27,5 +27,6 @@ pub mod Named
 pub mod Passing
 -- Lemmas only: the questions, and runs of events.
 pub mod Lookup
+pub mod Asked
 pub mod Run
 pub mod Refusals

@@ -179,7 +179,7 @@ abbrev mutual
   placesS n (resolved r w) = []
 
 -- commitments are of no other kind
-none-there : (κ : Kind) (cs : List Commitment) → oneOf κ commitments ≡ 0 → countC κ cs ≡ 0
+pub none-there : (κ : Kind) (cs : List Commitment) → oneOf κ commitments ≡ 0 → countC κ cs ≡ 0
 none-there κ [] e = refl
 none-there κ (c ∷ r) e = omega (arith, none-there κ r e)
 

@@ -9,6 +9,8 @@
 --     position-is-rust              a commitment's position
 --     match-by-id-hash-is-rust      the first created match of an id hash
 --     match-for-is-rust             a commitment's latest match
+--     requests-are-rust             the standing requests, one for each tournament, in the Rust's order
+--     requests-of-empty             62 where there is no tournament
 --     sound-iff                     the soundness test passes exactly on empty stores and on trees with 01's conditions
 --     sound-kept                    every event keeps a sound store sound
 --     refusal-keeps                 a refused event gives back the store that came in
@@ -20,20 +22,25 @@ use mathlib.Core.Path.{_≡_, refl, sym, _∙_, subst}
 use mathlib.Core.Logic.{_⊎_, inl, inr, ⊎-elim, _↔_}
 use mathlib.Core.Bool.{true}
 use mathlib.Core.List.{List, []}
+use lib.ListN.{length}
 use Rattle.digest.specs.declared.Digest.{Digest}
 use Rattle.domain.specs.declared.Address.{Address}
+use Rattle.domain.specs.declared.OptionAddress.the-variants as address
+use Rattle.domain.specs.declared.OptionMatchID.the-variants as parent
 use Rattle.domain.specs.declared.TournamentDescriptor.{TournamentDescriptor}
 use Rattle.domain.specs.declared.dispute.Event.{Event}
 use Rattle.domain.specs.declared.dispute.Event.the-variants.{Opening, Emitted}
 use Rattle.domain.specs.declared.dispute.EventKind.{EventKind}
 use Rattle.domain.specs.declared.refusal.Refusal.{Refusal}
+use Rattle.domain.specs.declared.refusal.CoreError.the-variants.{UnknownTournament}
 use Rattle.store.specs.declared.Store.{Store}
 use Rattle.sound.specs.Sound.{soundRows}
 use Rattle.dispute.specs.declared.Answer.the-variants as said
 use Rattle.dispute.specs.Rows.{openRows}
 use Rattle.dispute.specs.Apply.{applyRows, stepRows}
 use Rattle.dispute.specs.Position as rows
-use Rattle.told.specs.Tree.{Tournament, Kind, limit, countT, omap, newTournament, tournamentOf, matchesOf, position, matchByIdHash, matchFor}
+use Rattle.standing_requests.specs.Requests.{handed, refusedFor, requestsOf}
+use Rattle.told.specs.Tree.{Tournament, Kind, Kind.tournaments, limit, countT, omap, newTournament, tournamentOf, matchesOf, position, matchByIdHash, matchFor, collectStandingRequests}
 use Rattle.told.specs.Held.{Tour.tour, Ms.nil, plainT}
 use Rattle.told.specs.Good.{Good}
 use Rattle.told.specs.Events.{Sized, HoldsTree, Empty, Told, WantOfRoom, Lacks}
@@ -44,6 +51,7 @@ use Rattle.told.specs.Tested.{tested}
 use Rattle.told.specs.Named.{from-tests}
 use Rattle.told.specs.Passing.{to-tests, empty-passes}
 use Rattle.told.specs.Lookup.{position-shown, hash-shown, for-shown}
+use Rattle.told.specs.Asked.{asked, asked-nothing, many-t}
 use Rattle.told.specs.Refusals.{keeps}
 use Rattle.told.specs.Run.{Ran, many, opened, opens-alike, open-good, room-said, keeps-sound}
 
@@ -98,6 +106,19 @@ pub match-for-is-rust : (s : Store) (x : Tournament) → HoldsTree s x → Good 
 match-for-is-rust s x h =
     subst (λ y. Good y → (a : Address) (root : Digest) → ShowsFound s a (rows.matchFor s a root) (omap (matchFor root) (tournamentOf a y)))
     (h .plain) (for-shown s (h .tree) (h .rep))
+
+-- The standing requests are those that the Rust collects on the tree, one for each tournament; there are at most 32, so that the rows
+-- that are handed on hold them all.
+pub requests-are-rust : (s : Store) (x : Tournament) → HoldsTree s x → Good x
+    → (requestsOf s ≡ handed (collectStandingRequests parent.None x)) × (length (collectStandingRequests parent.None x) ≤ 32)
+requests-are-rust s x h g = (
+  subst (λ y. Good y → requestsOf s ≡ handed (collectStandingRequests parent.None y)) (h .plain) (asked s (h .tree) (h .rep)) g,
+  subst (λ n. n ≤ 32) (sym (many-t x parent.None)) (within-limits tournaments s x h),
+)
+
+-- Where every row is clear there is nothing to ask for: 62, with no address.
+pub requests-of-empty : (s : Store) → Empty s → requestsOf s ≡ refusedFor (UnknownTournament address.None)
+requests-of-empty = asked-nothing
 
 -- The row conditions of the soundness test hold exactly where every row is clear, or the store holds a tree with 01's conditions.
 pub sound-iff : (s : Store) → Sized s → (soundRows s ≡ true) ↔ (Empty s ⊎ ((x : Tournament) × HoldsTree s x × Good x))

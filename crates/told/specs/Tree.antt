@@ -3,7 +3,7 @@
 -- and its refusals, which the Rust has not, are document 01's. Assumes nothing: these are definitions.
 use Prim.Native.Nat.{ℕ, suc, _+_, max}
 use mathlib.Core.Bool.{Bool, true, false, not, cond}
-use mathlib.Core.List.{List, [], _∷_}
+use mathlib.Core.List.{List, [], _∷_, _++_}
 use mathlib.Core.Option.{Option, none, some}
 use lib.Dec.{ltb}
 use Rattle.digest.specs.declared.Digest.{Digest}
@@ -16,6 +16,8 @@ use Rattle.domain.specs.declared.MatchDeletionReason.{MatchDeletionReason}
 use Rattle.domain.specs.declared.OptionDigest.{OptionDigest}
 use Rattle.domain.specs.declared.OptionDigest.the-variants as digest
 use Rattle.domain.specs.declared.OptionAddress.the-variants as address
+use Rattle.domain.specs.declared.OptionMatchID.{OptionMatchID}
+use Rattle.domain.specs.declared.OptionMatchID.the-variants as parent
 use Rattle.domain.specs.declared.TournamentDescriptor.{TournamentDescriptor}
 use Rattle.domain.specs.declared.dispute.WinnerCommitment.{WinnerCommitment}
 use Rattle.domain.specs.declared.dispute.Event.{Event}
@@ -31,6 +33,7 @@ use Rattle.geometry.specs.declared.Checked.{Checked}
 use Rattle.geometry.specs.declared.Checked.the-variants as checked
 use Rattle.geometry.specs.Geometry.{checkDescriptor}
 use Rattle.dispute.specs.Apply.{checkKind}
+use Rattle.standing_requests.specs.declared.StandingRequest.{StandingRequest}
 
 -- ---- the tree: `Commitment`, `Tournament`, `Match` and `MatchStatus`
 
@@ -155,6 +158,22 @@ abbrev mutual
   inStatus a (Leaf n) = none
   inStatus a (Inner c) = tournamentOf a c
   inStatus a (Resolved r w) = none
+
+-- `collect_standing_requests`: the tournament's with its parent match, and then for each match in order that is delegated its child's,
+-- with the match's id as parent
+abbrev mutual
+  pub collectStandingRequests : OptionMatchID → Tournament → List StandingRequest
+  collectStandingRequests p (tournament d cs ms) = record { descriptor = d; «parent_match» = p } ∷ collectIn ms
+
+  pub collectIn : Matches → List StandingRequest
+  collectIn empty = []
+  collectIn (created id v r) = collectUnder (parent.Some id) v ++ collectIn r
+
+  pub collectUnder : OptionMatchID → Status → List StandingRequest
+  collectUnder p (Clocked n) = []
+  collectUnder p (Leaf n) = []
+  collectUnder p (Inner c) = collectStandingRequests p c
+  collectUnder p (Resolved r w) = []
 
 -- how many tournaments stand above that one, where n stand above this
 abbrev mutual
