@@ -1,20 +1,25 @@
 -- A run of records, which is tested for soundness once, is its events taken one after the other with the test each time: so that `told`
--- says what a run leaves. Assumes nothing: these are theorems about `storeAfter` and `numbersAfter` of the fold.
+-- says what a run leaves. And a run over a store that began empty is never refused. Assumes nothing: these are theorems about `storeAfter`
+-- and `numbersAfter` of the fold.
 use Prim.Native.Nat.{ℕ, zero, suc}
 use mathlib.Core.Path.{_≡_, refl, _∙_, sym, ap, subst}
 use mathlib.Core.Bool.{true}
 use mathlib.Core.List.{List, [], _∷_, _++_}
+use lib.ListN.{length}
 use Rattle.domain.specs.declared.dispute.Event.{Event}
 use Rattle.record.specs.declared.RecordRead.{RecordRead}
 use Rattle.record.specs.declared.RecordRead.the-variants as read
 use Rattle.record.specs.Record.{readRecord}
 use Rattle.store.specs.declared.Store.{Store}
+use Rattle.store.specs.Rows.{clearStore}
 use Rattle.sound.specs.Sound.{soundRows}
 use Rattle.dispute.specs.declared.Applied.{Applied}
-use Rattle.dispute.specs.Apply.{refused, applyRows}
+use Rattle.dispute.specs.Apply.{accepted, refused, applyRows}
 use Rattle.dispute.specs.Run as run
-use Rattle.dispute.specs.Run.{onRead, onRecord, recordAt, answerNumber}
+use Rattle.dispute.specs.Run.{onRead, onRecord, recordAt, answerNumber, numbersAfter, whole, asMany, runRows, runNumbers}
 use Rattle.told.specs.Events.{storeAfter, Sized}
+use Rattle.told.specs.Told.{blank, blank-sized}
+use Rattle.told.specs.Passing.{empty-passes}
 use Rattle.told.specs.Theorems.{sound-kept, step-is-apply}
 
 -- the event that a record tells, if it tells one
@@ -78,3 +83,14 @@ record-number n s bytes z h =
     let r : RunsAs n s bytes = runs-as n s bytes z h in
     ap (λ a. answerNumber (a .answer)) (read-is (run.storeAfter n s bytes) (readRecord (recordAt n bytes)) (r .sound)
     ∙ ap (λ t. applyRead t (readRecord (recordAt n bytes))) (r .store-is))
+
+-- After any records from the empty store on, the store is sound, and a run of records that are whole and have a place for each number is
+-- taken: neither 61 nor 75.
+pub clear-runs : (n : ℕ) (bytes : List ℕ) → RunsAs n clearStore bytes
+clear-runs n bytes = runs-as n clearStore bytes blank-sized (empty-passes clearStore (λ k. blank (k .kind) (k .row)))
+
+pub run-is-taken : (n : ℕ) (before bytes numbers : List ℕ) → whole bytes ≡ true → asMany bytes (length numbers) ≡ true
+    → (runRows (run.storeAfter n clearStore before) bytes numbers ≡ accepted (run.storeAfter (length numbers) (run.storeAfter n clearStore before) bytes))
+    × (runNumbers (run.storeAfter n clearStore before) bytes numbers ≡ numbersAfter (length numbers) (run.storeAfter n clearStore before) bytes)
+unfolding runRows runNumbers
+run-is-taken n before bytes numbers w m = let h = clear-runs n before .sound in (rw (h, w, m), rw (h, w, m))

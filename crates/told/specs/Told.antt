@@ -79,13 +79,13 @@ getD-clear : {A : Type 0} (n i : ℕ) (a : A) → getD (replicate n a) i a ≡ a
 getD-clear n i a = ⊎-elim (λ h. lib.ListN.List·getD-eq-default (replicate n a) a (omega (arith, length-replicate n a)))
     (λ h. getD-replicate n i a a h) (reach? i n)
 
-blank : (κ : Kind) (i : ℕ) → read clearStore (record { kind = κ; row = i }) ≡ clear κ
+pub blank : (κ : Kind) (i : ℕ) → read clearStore (record { kind = κ; row = i }) ≡ clear κ
 unfolding clearStore
 blank tournaments i = getD-clear 32 i clearTournament
 blank matches i = getD-clear 128 i clearMatch
 blank commitments i = getD-clear 256 i clearCommitment
 
-blank-sized : (κ : Kind) → length (rowsOf κ clearStore) ≡ limit κ
+pub blank-sized : (κ : Kind) → length (rowsOf κ clearStore) ≡ limit κ
 unfolding clearStore
 blank-sized tournaments = length-replicate 32 clearTournament
 blank-sized matches = length-replicate 128 clearMatch
