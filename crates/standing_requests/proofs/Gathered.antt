@@ -2,8 +2,8 @@
 use Prim.Native.Nat.{ℕ, zero, suc, _+_, _-_, _≤_, _<_}
 use native.Mathlib.Omega.{arith}
 use borrow.Author.Tests.{ltb-true, ltb-false}
-use mathlib.Core.Path.{_≡_, refl, ap, ap₂, _∙_, sym, subst}
-use mathlib.Core.Bool.{Bool, true, false, not, cond}
+use mathlib.Core.Path.{_≡_, refl, ap, _∙_, sym}
+use mathlib.Core.Bool.{Bool, true, false, not}
 use mathlib.Core.List.{List, [], _∷_, _++_, map, append-nil}
 use lib.Dec.{ltb}
 use lib.ListN.{getD, set, length, drop, replicate, length-replicate, length-map}
@@ -13,10 +13,10 @@ use Rattle.store.specs.declared.MatchRow.{MatchRow}
 use Rattle.store.specs.declared.TournamentRow.{TournamentRow}
 use Rattle.store.specs.declared.MatchStatus.{MatchStatus}
 use Rattle.store.specs.declared.Link.{Link}
-use Rattle.store.specs.declared.Link.the-variants.{End, At}
-use Rattle.store.specs.Rows.{tournamentAt, matchAt, clearTournament, clearMatch}
+use Rattle.store.specs.declared.Link.the-variants.{At}
+use Rattle.store.specs.Rows.{tournamentAt, matchAt, clearMatch}
 use Rattle.store.specs.Laws.{far-tournament, far-match}
-use Rattle.store.specs.Find.{Place, childRow, placesFrom}
+use Rattle.store.specs.Find.{childRow, placesFrom}
 use Rattle.store.specs.Routing.{Keeps, frames, walk-none, walk-deep, walk-free, walk-child}
 use Rattle.sound.specs.Tests.{rowOr}
 use Rattle.standing_requests.specs.declared.Order.{Order}

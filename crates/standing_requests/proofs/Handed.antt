@@ -7,7 +7,7 @@ use mathlib.Core.Bool.{Bool, true, false, cond}
 use mathlib.Core.List.{List, [], _∷_, _++_, map, append-assoc, append-nil}
 use lib.Dec.{ltb}
 use lib.ListN.{set, length, take, replicate, length-append, length-map}
-use lib.Seq.{set-append-seam, append-snoc, take-all, take-append-le}
+use lib.Seq.{set-append-seam, take-all, take-append-le}
 use Rattle.domain.specs.declared.OptionAddress.the-variants as address
 use Rattle.domain.specs.declared.refusal.CoreError.the-variants.{StoreUnsound, UnknownTournament}
 use Rattle.store.specs.declared.Store.{Store}
@@ -15,7 +15,6 @@ use Rattle.store.specs.Rows.{tournamentAt, usedTournament}
 use Rattle.store.specs.Find.{Place, placesFrom, places}
 use Rattle.sound.specs.Sound.{soundRows}
 use Rattle.standing_requests.specs.declared.Order.{Order}
-use Rattle.standing_requests.specs.declared.StandingRequest.{StandingRequest}
 use Rattle.standing_requests.specs.declared.Collected.the-variants as collected
 use Rattle.standing_requests.specs.Requests.{requestAt, requests, inRows, clearRequest, handed, refusedFor, requestsOf}
 use Rattle.standing_requests.specs.Order.{withPlace, withPlaces, orderOf, requestsIn}

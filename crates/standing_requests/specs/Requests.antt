@@ -16,7 +16,7 @@ use Rattle.store.specs.declared.MatchRow.{MatchRow}
 use Rattle.store.specs.declared.Link.{Link}
 use Rattle.store.specs.declared.Link.the-variants.{End, At}
 use Rattle.store.specs.Rows.{tournamentAt, matchAt, usedTournament, clearTournament, clearMatch}
-use Rattle.store.specs.Find.{Place, places}
+use Rattle.store.specs.Find.{places}
 use Rattle.sound.specs.Sound.{soundRows}
 use Rattle.sound.specs.Tests.{rowOr}
 use Rattle.standing_requests.specs.declared.StandingRequest.{StandingRequest}

@@ -13,7 +13,7 @@ use store::Store;
 use store::TournamentRow;
 use store::rows;
 ghost use mathlib.Core.Path.{_≡_};
-ghost use Rattle.standing_requests.specs.Requests.{requestOf, clearRequest, refusedFor, requestsOf};
+ghost use Rattle.standing_requests.specs.Requests.{requestOf, refusedFor, requestsOf};
 ghost use Rattle.standing_requests.specs.Order.{noPlaces, withPlace, childBelow, orderOf, requestsIn};
 
 // One standing to be read: the tournament's descriptor, and the match that it hangs from, if any.

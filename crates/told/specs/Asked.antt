@@ -1,5 +1,5 @@
 -- Lemmas only: the standing requests over the rows are those that the Rust collects on the tree.
-use Prim.Native.Nat.{ℕ, suc, _+_, _≤_}
+use Prim.Native.Nat.{ℕ, suc, _+_}
 use native.Mathlib.Omega.{arith}
 use mathlib.Core.Path.{_≡_, refl, _∙_, ap, ap₂, subst}
 use mathlib.Core.Bool.{true}
@@ -14,7 +14,7 @@ use Rattle.store.specs.declared.TournamentRow.{TournamentRow}
 use Rattle.store.specs.declared.MatchRow.{MatchRow}
 use Rattle.store.specs.declared.Link.{Link}
 use Rattle.store.specs.declared.Link.the-variants.{End, At}
-use Rattle.store.specs.Rows.{tournamentAt, matchAt, usedTournament}
+use Rattle.store.specs.Rows.{matchAt, usedTournament}
 use Rattle.store.specs.Find.{Place}
 use Rattle.sound.specs.Tests.{rowOr}
 use Rattle.standing_requests.specs.declared.StandingRequest.{StandingRequest}

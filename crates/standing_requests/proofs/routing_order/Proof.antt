@@ -2,7 +2,7 @@
 use borrow.Author.Needs.{needs}
 use Prim.Native.Nat.{_≤_}
 use native.Mathlib.Omega.{arith}
-use mathlib.Core.Path.{_≡_, refl, _∙_, sym, ap}
+use mathlib.Core.Path.{_≡_, refl, _∙_, sym}
 use lib.ListN.{length, length-map, length-set}
 use Rattle.store.specs.Routing.{Keeps, walk-out, walk-end, walk-pop, walk-far}
 use Rattle.standing_requests.specs.Order.{withPlaces, orderOf}
