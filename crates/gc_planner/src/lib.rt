@@ -23,8 +23,8 @@ use store::Store;
 ghost use mathlib.Core.Path.{_≡_};
 ghost use Prim.Native.Nat.{_≤_};
 ghost use Rattle.domain.specs.declared.refusal.Refusal.the-variants.{Core};
-ghost use Rattle.gc_planner.specs.Cleanup.{eliminable, early};
-ghost use Rattle.gc_planner.specs.Standings.{empty, put, toldAt, toldSeen, seenFrom, twiceFrom, thereOf};
+ghost use Rattle.gc_planner.specs.Cleanup.{planGc, eliminable, early};
+ghost use Rattle.gc_planner.specs.Standings.{empty, put, gathered, toldAt, toldSeen, seenFrom, twiceFrom, thereOf};
 ghost use Rattle.gc_planner.specs.Outline.{blankOutline, toldBy, outlineOf, addressAt, plannedOf, planOf, Plans};
 
 // A tournament and its standing, as it was observed.
@@ -55,6 +55,26 @@ struct Told {
 // The first 32 rows of the standings; those that there are not are clear.
 struct Standings {
     rows: [Told; 32],
+}
+
+// The highest-priority cleanup known to be legal at a block, by a lent list of standings: 61, 62, 68 and 67 before the walk, and 51 in it.
+pub fn plan_gc(s: Store, standings: &[StandingRow], at: u64) -> GcPlan
+    ensures { λ r. ⌜ r ≡ planGc s (now (standings .entry)) at ⌝ }
+{
+    plan_standings(s, gather(standings), standings.len(), at)
+}
+
+// The first 32 of the lent rows, by value.
+fn gather(rows: &[StandingRow]) -> Standings
+    ensures { λ r. ⌜ r ≡ gathered (now (rows .entry)) ⌝ }
+{
+    let mut acc = none();
+    let mut i = 0;
+    while i < rows.len() {
+        acc = with_row(acc, i, rows[i]);
+        i += 1;
+    }
+    acc
 }
 
 // The plan for any list of standings that is gathered so, `count` of them in all.
