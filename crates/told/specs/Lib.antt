@@ -1,9 +1,10 @@
--- The tree told. To be read: Theorems, over Tree, Held, Good, Events and Shown; Table, a row of document 01; Records, runs of records.
+-- The tree told. To be read: Theorems, over Tree, Held, Good, Events, Shown and Cleanup; Table, document 01's numbers; Records, runs of records.
 pub mod Tree
 pub mod Held
 pub mod Good
 pub mod Events
 pub mod Shown
+pub mod Cleanup
 pub mod Theorems
 pub mod Table
 pub mod Records
@@ -30,3 +31,5 @@ pub mod Lookup
 pub mod Asked
 pub mod Run
 pub mod Refusals
+-- Lemmas only: the cleanup.
+pub mod Planned

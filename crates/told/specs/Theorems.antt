@@ -1,7 +1,7 @@
 -- THE TREE TOLD: what a store holds after an accepted opening and any events, as theorems. They are to be read with `Tree` (the tree
 -- of the Rust, and what one event makes of it), `Held` (what it means that a store holds a tree), `Good` (01's conditions on it), `Events`
--- (runs of events) and `Shown` (answers to questions). `Table` and `Records` hold two theorems more, and every other file of this
--- folder only lemmas.
+-- (runs of events), `Shown` (answers to questions) and `Cleanup` (the Rust's `plan_gc`, and what is due). `Table` and `Records` hold two
+-- theorems more, and every other file of this folder only lemmas.
 --
 --     told                          the store holds the tree told, and the answers are the tree's
 --     opening-forgets               an accepted opening leaves nothing of the store before it
@@ -11,18 +11,21 @@
 --     match-for-is-rust             a commitment's latest match
 --     requests-are-rust             the standing requests, one for each tournament, in the Rust's order
 --     requests-of-empty             62 where there is no tournament
+--     planner-is-rust               the cleanup, by the Rust's recursion, order number and all
+--     first-of-greatest             the cleanup, stated without a walk
+--     steps-within                  at most one step for each tournament and match
 --     sound-iff                     the soundness test passes exactly on empty stores and on trees with 01's conditions
 --     sound-kept                    every event keeps a sound store sound
 --     refusal-keeps                 a refused event gives back the store that came in
 --     step-is-apply                 over a sound store the test that comes first changes nothing
 --
 -- Assumes nothing.
-use Prim.Native.Nat.{_≤_}
+use Prim.Native.Nat.{ℕ, _+_, _≤_}
+use lib.ListN.{length}
 use mathlib.Core.Path.{_≡_, refl, sym, _∙_, subst}
 use mathlib.Core.Logic.{_⊎_, inl, inr, ⊎-elim, _↔_}
 use mathlib.Core.Bool.{true}
 use mathlib.Core.List.{List, []}
-use lib.ListN.{length}
 use Rattle.digest.specs.declared.Digest.{Digest}
 use Rattle.domain.specs.declared.Address.{Address}
 use Rattle.domain.specs.declared.OptionAddress.the-variants as address
@@ -40,11 +43,15 @@ use Rattle.dispute.specs.Rows.{openRows}
 use Rattle.dispute.specs.Apply.{applyRows, stepRows}
 use Rattle.dispute.specs.Position as rows
 use Rattle.standing_requests.specs.Requests.{handed, refusedFor, requestsOf}
-use Rattle.told.specs.Tree.{Tournament, Kind, Kind.tournaments, limit, countT, omap, newTournament, tournamentOf, matchesOf, position, matchByIdHash, matchFor, collectStandingRequests}
+use Rattle.gc_planner.specs.declared.StandingRow.{StandingRow}
+use Rattle.gc_planner.specs.Cleanup.{standingOf, twice, planGc}
+use Rattle.told.specs.Tree.{Tournament, Kind, Kind.tournaments, Kind.matches, limit, countT, omap, newTournament, tournamentOf, matchesOf, position, matchByIdHash, matchFor, collectStandingRequests}
 use Rattle.told.specs.Held.{Tour.tour, Ms.nil, plainT}
 use Rattle.told.specs.Good.{Good}
 use Rattle.told.specs.Events.{Sized, HoldsTree, Empty, Told, WantOfRoom, Lacks}
 use Rattle.told.specs.Shown.{ShowsPositioned, ShowsFound}
+use Rattle.told.specs.Cleanup.{planRust, dueT, lackT, Says}
+use Rattle.told.specs.Planned.{plans-rust, plans-first, plans-steps}
 use Rattle.told.specs.Told.{open-rep}
 use Rattle.told.specs.Room.{within}
 use Rattle.told.specs.Tested.{tested}
@@ -119,6 +126,31 @@ requests-are-rust s x h g = (
 -- Where every row is clear there is nothing to ask for: 62, with no address.
 pub requests-of-empty : (s : Store) → Empty s → requestsOf s ≡ refusedFor (UnknownTournament address.None)
 requests-of-empty = asked-nothing
+
+-- The cleanup planner over the rows gives what the Rust's recursion gives on the tree. The list is the Rust's map: at most 32 standings,
+-- none of an address twice.
+pub planner-is-rust : (s : Store) (x : Tournament) → HoldsTree s x → Good x → (st : List StandingRow) (at : ℕ) → length st ≤ 32
+    → twice [] st ≡ address.None → planGc s st at .planned ≡ planRust (λ a. standingOf st a) at x
+planner-is-rust s x h =
+    subst (λ y. Good y → (st : List StandingRow) (at : ℕ) → length st ≤ 32 → twice [] st ≡ address.None → planGc s st at .planned
+    ≡ planRust (λ a. standingOf st a) at y) (h .plain) (plans-rust s (h .tree) (h .rep))
+
+-- Its answer is the first missing standing where a tournament that needs one has none, whatever is due; otherwise no due item has a
+-- greater level, and none of the same level stands sooner in the tree; and nothing exactly where nothing is due.
+pub first-of-greatest : (s : Store) (x : Tournament) → HoldsTree s x → Good x → (st : List StandingRow) (at : ℕ) → length st ≤ 32
+    → twice [] st ≡ address.None
+    → Says (lackT (λ a. standingOf st a) x) (dueT (λ a. standingOf st a) at x) (planGc s st at .planned)
+first-of-greatest s x h =
+    subst (λ y. Good y → (st : List StandingRow) (at : ℕ) → length st ≤ 32 → twice [] st ≡ address.None
+    → Says (lackT (λ a. standingOf st a) y) (dueT (λ a. standingOf st a) at y) (planGc s st at .planned)) (h .plain)
+    (plans-first s (h .tree) (h .rep))
+
+-- A cleanup, refused or not, takes at most one step for each tournament and match of the tree.
+pub steps-within : (s : Store) (x : Tournament) → HoldsTree s x → Good x → (st : List StandingRow) (at : ℕ)
+    → planGc s st at .steps ≤ countT tournaments x + countT matches x
+steps-within s x h =
+    subst (λ y. Good y → (st : List StandingRow) (at : ℕ) → planGc s st at .steps ≤ countT tournaments y + countT matches y) (h .plain)
+    (plans-steps s (h .tree) (h .rep))
 
 -- The row conditions of the soundness test hold exactly where every row is clear, or the store holds a tree with 01's conditions.
 pub sound-iff : (s : Store) → Sized s → (soundRows s ≡ true) ↔ (Empty s ⊎ ((x : Tournament) × HoldsTree s x × Good x))
