@@ -103,7 +103,7 @@ pub record At (x : List ℕ) (p : Progress) : Type 0 where
 
 -- a block more: its records' answers and numbers are those of the whole input, and so are its lines
 pub record Goes (x b : List ℕ) (p q : Progress) (ns t : List ℕ) (turn : Turn p b q ns t) : Type 0 where
-  pub taken : turn .stepped .answer ≡ said.Accepted
+  pub taken : turn .turned .stepped .answer ≡ said.Accepted
   pub at : At (x ++ b) q
   pub numbers : numbersOf (x ++ b) ≡ numbersOf x ++ ns
   pub text : records (x ++ b) < 18446744073709551616 → linesOf 0 (numbersOf (x ++ b)) ≡ linesOf 0 (numbersOf x) ++ t
@@ -126,10 +126,10 @@ module _ (x b : List ℕ) (p q : Progress) (ns t : List ℕ) (a : At x p) (turn 
   records-are = omega (arith, length-append x b, ap length bytes-are, length-drop (k * 176) (x ++ b))
 
   -- what the step did, with all whole records taken
-  did : Steps (p .store) (p .index) bytes (turn .ns) (turn .ns′) (turn .out) (turn .out′) n (turn .stepped)
+  did : Steps (p .store) (p .index) bytes (turn .ns) (turn .ns′) (turn .out) (turn .out′) n (turn .turned .stepped)
   did =
       let e : count (length bytes) (length (turn .out)) (length (turn .ns)) ≡ n = omega (arith, turn .room-for-text, turn .room-for-numbers) in
-      subst (λ m. Steps (p .store) (p .index) bytes (turn .ns) (turn .ns′) (turn .out) (turn .out′) m (turn .stepped)) e (turn .steps)
+      subst (λ m. Steps (p .store) (p .index) bytes (turn .ns) (turn .ns′) (turn .out) (turn .out′) m (turn .turned .stepped)) e (turn .turned .steps)
 
   -- its bytes, and its places for numbers
   abbrev front-bytes : List ℕ
@@ -193,9 +193,9 @@ module _ (x b : List ℕ) (p q : Progress) (ns t : List ℕ) (a : At x p) (turn 
   goes = record {
     taken = did .answer ∙ ap (λ r. r .answer) run-store;
     at = record {
-      store = ap (λ z. z .store) (turn .next) ∙ did .store ∙ ap (λ r. r .store) run-store ∙ sym whole-store;
-      index = ap (λ z. z .index) (turn .next) ∙ ap₂ _+_ (a .index) (did .taken) ∙ sym records-are;
-      held = ap (λ z. z .held) (turn .next) ∙ ap₂ (λ m w. drop (m * 176) w) (did .taken) bytes-are ∙ drop-drop (n * 176) (k * 176) (x ++ b)
+      store = turn .turned .store ∙ did .store ∙ ap (λ r. r .store) run-store ∙ sym whole-store;
+      index = turn .turned .next ∙ ap₂ _+_ (a .index) (did .taken) ∙ sym records-are;
+      held = turn .turned .rest ∙ ap₂ (λ m w. drop (m * 176) w) (did .taken) bytes-are ∙ drop-drop (n * 176) (k * 176) (x ++ b)
           ∙ ap (λ m. drop m (x ++ b)) (let e : k * 176 + n * 176 ≡ records (x ++ b) * 176 = omega (arith, records-are) in e);
     };
     numbers = whole-numbers ∙ ap (λ w. numbersOf x ++ w) (sym numbers-of);

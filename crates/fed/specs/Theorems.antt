@@ -18,7 +18,7 @@ use Rattle.fed.specs.Cuts.{goes, After, after, begun}
 
 -- From the empty store on, whatever was fed before, the next step's run of records is taken.
 pub never-refused : (bs : List (List ℕ)) (p : Progress) (ns t : List ℕ) → Feeds start bs p ns t → (b : List ℕ) (q : Progress) (ms u : List ℕ)
-    (one : Turn p b q ms u) → one .stepped .answer ≡ said.Accepted
+    (one : Turn p b q ms u) → one .turned .stepped .answer ≡ said.Accepted
 never-refused bs p ns t f b q ms u one = goes (joined bs) b p q ms u (after [] start p bs ns t begun f .at) one .taken
 
 -- However the input is cut into blocks: the numbers of all steps together are those of the whole input, the store at the end is the one

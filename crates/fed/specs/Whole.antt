@@ -1,7 +1,7 @@
 -- What `fold` lists of its whole input, as a function of the bytes: "starts empty, reads records .. and prints for each its index from 0 and
 -- its number; `tail 74` if bytes remain; last the rows in use" (document 01, "Records and `fold`"). And what it means that an input is fed
 -- block by block. Assumes nothing: these are definitions.
-use Prim.Native.Nat.{ℕ, _+_, _*_, _/_, _≤_}
+use Prim.Native.Nat.{ℕ, _*_, _/_, _≤_}
 use mathlib.Core.Path.{_≡_}
 use mathlib.Core.List.{List, [], _∷_, _++_}
 use lib.ListN.{length, take, drop}
@@ -10,8 +10,7 @@ use Rattle.store.specs.Rows.{clearStore}
 use Rattle.store.specs.Scan.{tournamentsUsed, matchesUsed, commitmentsUsed}
 use Rattle.dispute.specs.Run.{storeAfter, numbersAfter}
 use Rattle.lines.specs.Text.{linesOf, ending}
-use Rattle.feed.specs.declared.Stepped.{Stepped}
-use Rattle.feed.specs.Step.{count, Steps}
+use Rattle.feed.specs.Step.{Turned}
 
 -- ---- the whole input
 
@@ -47,21 +46,19 @@ pub record Progress : Type 0 where
 abbrev pub start : Progress
 start = record { store = clearStore; index = 0; held = [] }
 
--- One block comes behind the bytes that are held, and `step` of `feed`, whose contract is `Steps`, takes records from the front: the
--- first `taken` of its buffer of numbers are theirs, the first `written` bytes of its buffer of text are what is printed, and the bytes
--- after these records are held. Its buffers have room for all whole records.
+-- One block comes behind the bytes that are held, and the program takes records from the front by `step` of `feed` and goes on as
+-- `Turned` says, which is the contract of its function `advance`: the first `taken` of its buffer of numbers are the records' numbers, and
+-- the first `written` bytes of its buffer of text are what it prints. Its buffers have room for all whole records.
 pub record Turn (p : Progress) (block : List ℕ) (q : Progress) (numbers text : List ℕ) : Type 0 where
   pub ns : List ℕ
   pub ns′ : List ℕ
   pub out : List ℕ
   pub out′ : List ℕ
-  pub stepped : Stepped
-  pub steps : Steps (p .store) (p .index) (p .held ++ block) ns ns′ out out′ (count (length (p .held ++ block)) (length out) (length ns)) stepped
+  pub turned : Turned (p .store) (p .index) (p .held ++ block) ns ns′ out out′ (q .store) (q .index) (q .held)
   pub room-for-text : records (p .held ++ block) ≤ length out / 42
   pub room-for-numbers : records (p .held ++ block) ≤ length ns
-  pub next : q ≡ record { store = stepped .store; index = p .index + stepped .taken; held = drop (stepped .taken * 176) (p .held ++ block) }
-  pub numbers-are : numbers ≡ take (stepped .taken) ns′
-  pub text-is : text ≡ take (stepped .written) out′
+  pub numbers-are : numbers ≡ take (turned .stepped .taken) ns′
+  pub text-is : text ≡ take (turned .stepped .written) out′
 
 -- any blocks, one after the other, with the numbers and the text of all turns
 pub data Feeds : Progress → List (List ℕ) → Progress → List ℕ → List ℕ → Type 0 where

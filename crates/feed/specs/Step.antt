@@ -1,5 +1,5 @@
 -- What one step over a block of input does (document 01, "Records and `fold`"). Assumes nothing: these are definitions.
-use Prim.Native.Nat.{ℕ, _*_, _/_, min}
+use Prim.Native.Nat.{ℕ, _+_, _*_, _/_, min}
 use mathlib.Core.Path.{_≡_}
 use mathlib.Core.List.{List, _++_}
 use lib.ListN.{length, take, drop}
@@ -21,3 +21,12 @@ pub record Steps (s : Store) (index : ℕ) (bytes ns ns′ out out′ : List ℕ
   pub taken : a .taken ≡ n
   pub numbers : ns′ ≡ runNumbers s (take (n * 176) bytes) (take n ns) ++ drop n ns
   pub lines : Put out 0 (linesIn (length out) index (runNumbers s (take (n * 176) bytes) (take n ns))) out′ (a .written)
+
+-- What a program goes on with after a step over the bytes that stood in its block: the store, the index of the next record, and the bytes
+-- that are held, which are those after the records taken.
+pub record Turned (s : Store) (index : ℕ) (bytes ns ns′ out out′ : List ℕ) (s′ : Store) (index′ : ℕ) (held : List ℕ) : Type 0 where
+  pub stepped : Stepped
+  pub steps : Steps s index bytes ns ns′ out out′ (count (length bytes) (length out) (length ns)) stepped
+  pub store : s′ ≡ stepped .store
+  pub next : index′ ≡ index + stepped .taken
+  pub rest : held ≡ drop (stepped .taken * 176) bytes

@@ -11,7 +11,10 @@ use store::Store;
 ghost use mathlib.Core.Path.{_≡_};
 ghost use mathlib.Core.List.{_++_};
 ghost use Prim.Native.Nat.{_-_, _≤_, _<_};
+ghost use mathlib.Core.Bool.{true, false};
 ghost use lib.ListN.{length, take, drop};
+ghost use Rattle.store.specs.Rows.{clearStore};
+ghost use Rattle.feed.specs.Step.{Turned};
 
 // What goes on from one read to the next: the store, the next record's index, how many bytes stand at the block's front, whether to
 // go on, and whether something failed.
@@ -53,7 +56,9 @@ fn blank() -> [u32; 374]
 }
 
 // The empty store, before the first record.
-fn start() -> Progress {
+fn start() -> Progress
+    ensures { λ r. ⌜ (r .store ≡ clearStore) × (r .index ≡ 0) × (r .held ≡ 0) ⌝ }
+{
     Progress {
         store: store::clear_store(),
         index: 0,
@@ -64,7 +69,9 @@ fn start() -> Progress {
 }
 
 // The end, after the last record or at a failure.
-fn stopped(store: Store, index: u64, held: usize, failed: bool) -> Progress {
+fn stopped(store: Store, index: u64, held: usize, failed: bool) -> Progress
+    ensures { λ r. ⌜ r .going ≡ false ⌝ }
+{
     Progress {
         store,
         index,
@@ -97,7 +104,8 @@ fn turn(p: Progress, block: &mut [u8], numbers: &mut [u32], out: &mut [u8]) -> P
     advance(store, index, block, filled, numbers, out)
 }
 
-// One step over the bytes that stand in the block, one write, and the rest moved to the block's front.
+// One step over the bytes that stand in the block, one write, and the rest moved to the block's front. Where it goes on, it goes on with
+// what the step left and the bytes that it did not take.
 fn advance(
     store: Store,
     index: u64,
@@ -107,6 +115,7 @@ fn advance(
     out: &mut [u8],
 ) -> Progress
     requires { ⌜ (index < 4611686018427387904) × (filled ≤ length (now block)) × (filled ≡ length (take filled (now block))) ⌝ }
+    ensures { λ r. ⌜ (r .going ≡ true → Turned store index (take filled (now (block .entry))) (now (numbers .entry)) (now (numbers .exit)) (now (out .entry)) (now (out .exit)) (r .store) (r .index) (take (r .held) (now (block .exit)))) ⌝ }
 {
     let s = feed::step(store, index, &block[..filled], numbers, out);
     let answer = s.answer;
@@ -131,10 +140,11 @@ fn advance(
     }
 }
 
-// One read, behind the bytes that are held.
+// One read, behind the bytes that are held, which stay as they are.
 fn fill(block: &mut [u8], held: usize) -> Filled
     requires { ⌜ held ≤ length (now block) ⌝ }
     ensures { λ r. ⌜ (held ≤ r .filled) × (r .filled ≤ length (now (block .exit))) × (r .filled ≡ length (take (r .filled) (now (block .exit)))) ⌝ }
+    ensures { λ r. ⌜ take held (now (block .exit)) ≡ take held (now (block .entry)) ⌝ }
 {
     let got = libc::read(STDIN_FILENO, &mut block[held..]);
     let n = io::count(got, &block[held..]);
