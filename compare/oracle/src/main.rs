@@ -57,14 +57,28 @@ fn main() {
             let requests = generate::requests(program, seed.parse().unwrap(), size.parse().unwrap());
             out.write_all(&requests).unwrap();
         }
+        ["request", name, size, times] => {
+            generate::bench::request(name, size.parse().unwrap(), times.parse().unwrap(), &mut out).unwrap();
+        }
         ["answer", program] => {
             let mut input = Vec::new();
             std::io::stdin().lock().read_to_end(&mut input).unwrap();
             out.write_all(answers(program, &input).as_bytes()).unwrap();
         }
+        ["bench", kind] => {
+            let mut input = Vec::new();
+            std::io::stdin().lock().read_to_end(&mut input).unwrap();
+            let turns = match kind {
+                "store" => bench::store,
+                "plan" => bench::plan,
+                _ => bench::calls,
+            };
+            let (sum, spent) = turns(&input);
+            writeln!(out, "{sum} {}", spent.as_nanos()).unwrap();
+        }
         ["fold"] => bench::fold(&mut std::io::stdin().lock(), &mut out).unwrap(),
         _ => {
-            eprintln!("usage: oracle generate PROGRAM SEED SIZE | oracle answer PROGRAM | oracle fold");
+            eprintln!("usage: oracle generate PROGRAM SEED SIZE | oracle answer PROGRAM | oracle request NAME SIZE TIMES | oracle bench KIND | oracle fold");
             std::process::exit(2);
         }
     }

@@ -1,4 +1,4 @@
-// Writes the 32 bytes of the last of a million joins, each of the two digests before it. bench/join.py takes its time.
+// Writes the 32 bytes of the last of a million joins, each of the two digests before it. bench/run takes its time.
 use digest::Digest;
 use libc::STDOUT_FILENO;
 

@@ -9,20 +9,20 @@ use crate::tournament::{MatchID, dispute};
 
 /// The fields of a record, of which each kind uses some.
 #[derive(Clone, Copy)]
-struct Record {
-    kind: u8,
-    reason: u8,
-    winner: u8,
-    tournament: Address,
-    eliminable_at: u64,
-    first: Digest,
-    second: Digest,
+pub struct Record {
+    pub kind: u8,
+    pub reason: u8,
+    pub winner: u8,
+    pub tournament: Address,
+    pub eliminable_at: u64,
+    pub first: Digest,
+    pub second: Digest,
     /// The opened tournament's descriptor, or the child's.
-    descriptor: Descriptor,
+    pub descriptor: Descriptor,
 }
 
 impl Record {
-    fn of(kind: u8, tournament: Address) -> Self {
+    pub fn of(kind: u8, tournament: Address) -> Self {
         Self {
             kind,
             reason: 0,
@@ -35,7 +35,7 @@ impl Record {
         }
     }
 
-    fn bytes(self) -> [u8; 176] {
+    pub fn bytes(self) -> [u8; 176] {
         let mut bytes = [0; 176];
         bytes[0] = self.kind;
         bytes[4..24].copy_from_slice(&self.tournament.0);
@@ -191,7 +191,7 @@ impl Stream {
     }
 }
 
-fn hash(commitment_one: Digest, commitment_two: Digest) -> Digest {
+pub fn hash(commitment_one: Digest, commitment_two: Digest) -> Digest {
     MatchID {
         commitment_one,
         commitment_two,

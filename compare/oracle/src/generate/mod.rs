@@ -1,6 +1,7 @@
 //! Requests. Seed 0 gives the fixed part: the rows of document 01's table and what is small enough to try whole, thinned to
 //! about the size asked for. Any other seed gives that many random requests, near the limits, some of them damaged.
 
+pub mod bench;
 pub mod decoders;
 pub mod dispute;
 pub mod geometry;
