@@ -12,13 +12,14 @@ use domain::OptionDigest;
 use domain::TournamentDescriptor;
 use domain::dispute::WinnerCommitment;
 ghost use mathlib.Core.Path.{_≡_};
+ghost use Prim.Native.Nat.{_<_};
 ghost use lib.Dec.{eqb};
 ghost use Rattle.domain.specs.Values.{sameAddress};
 ghost use Rattle.store.specs.Rows.{clearStore, freeStatus, clockedStatus, sameLink};
 ghost use Rattle.store.specs.Scan.{lowestTournament, lowestMatch, lowestCommitment, tournamentsUsed, matchesUsed, commitmentsUsed};
 ghost use Rattle.store.specs.Chain.{hasRoot, hasId, commitmentByRoot, matchById};
 ghost use Rattle.store.specs.Find.{childRow, routeRows};
-ghost use Rattle.store.specs.Free.{freeC, freeT};
+ghost use Rattle.store.specs.Free.{freeC, freeT, enteredAt, pastRow, childBeneath, nextRow};
 
 // A row's number, or the end of a chain.
 pub enum Link {
@@ -85,6 +86,14 @@ pub struct Store {
 pub enum Route {
     Lost,
     Found(usize, usize),
+}
+
+// How far a tournament is freed: the match of it that was looked at last, and where the next ones are, at most so many.
+struct Cursor {
+    tournament: usize,
+    match_: usize,
+    left: usize,
+    next: Link,
 }
 
 impl Link {
@@ -408,46 +417,97 @@ pub fn find_tournament(s: Store, address: Address) -> Route
     Route::Lost
 }
 
-// The store with the tournament in row t and all beneath it cleared: its commitments, its matches and their children.
+// The store with the tournament in row t and all beneath it cleared: its commitments, its matches and their children. The tournaments
+// above the one that is being freed wait in `above`, the innermost last.
 pub fn free_tree(s: Store, t: usize) -> Store
     ensures { λ r. ⌜ r ≡ freeT 8 s t ⌝ }
 {
-    free_levels(s, t, 8)
-}
-
-// The same for `levels` tournaments from the one in row t downwards.
-fn free_levels(s: Store, t: usize, levels: usize) -> Store
-    ensures { λ r. ⌜ r ≡ freeT levels s t ⌝ }
-{
-    if levels == 0 {
-        return s;
-    }
     if t >= 32 {
         return s;
     }
-    let row = s.tournaments[t];
-    let head = row.commitments;
+    let top = s.tournaments[t];
+    let mut at = entered(top, t);
+    let head = top.commitments;
     let mut out = free_commitments(s, head);
-    let mut l = row.matches;
-    let mut k: usize = 128;
-    while k > 0 {
-        let Link::At(i) = l else {
-            break;
-        };
+    let mut above = [at; 8];
+    let mut depth: usize = 0;
+    loop {
+        let l = at.next;
+        let i = next_row(at.left, l);
         if i >= 128 {
-            break;
+            let done = at.tournament;
+            out.tournaments[done] = rows::clear_tournament();
+            if depth == 0 {
+                return out;
+            }
+            depth -= 1;
+            at = above[depth];
+            let delegated = at.match_;
+            out.matches[delegated] = rows::clear_match();
+            continue;
         }
-        let match_ = out.matches[i];
-        let status = match_.status;
-        if let MatchStatus::Inner { child } = status {
-            out = free_levels(out, child, levels - 1);
+        let row = out.matches[i];
+        let status = row.status;
+        let c = child_beneath(status, depth);
+        at = past(at, i, row);
+        if c >= 32 {
+            out.matches[i] = rows::clear_match();
+            continue;
         }
-        out.matches[i] = rows::clear_match();
-        l = match_.next;
-        k -= 1;
+        above[depth] = at;
+        depth += 1;
+        let child = out.tournaments[c];
+        let head = child.commitments;
+        out = free_commitments(out, head);
+        at = entered(child, c);
     }
-    out.tournaments[t] = rows::clear_tournament();
-    out
+}
+
+// Freeing at the first match of the tournament in row t.
+fn entered(row: TournamentRow, t: usize) -> Cursor
+    ensures { λ r. ⌜ r ≡ enteredAt row t ⌝ }
+{
+    let next = row.matches;
+    Cursor {
+        tournament: t,
+        match_: 0,
+        left: 128,
+        next,
+    }
+}
+
+// Freeing after the match in row i.
+fn past(at: Cursor, i: usize, row: MatchRow) -> Cursor
+    requires { ⌜ 0 < at .left ⌝ }
+    ensures { λ r. ⌜ r ≡ pastRow at i row ⌝ }
+{
+    let next = row.next;
+    Cursor {
+        tournament: at.tournament,
+        match_: i,
+        left: at.left - 1,
+        next,
+    }
+}
+
+// The row of the child of a match in a tournament at that depth; past the rows where there is none or it would be a ninth level.
+fn child_beneath(status: MatchStatus, depth: usize) -> usize
+    ensures { λ r. ⌜ r ≡ childBeneath depth status ⌝ }
+{
+    if depth < 7 { status.child_row() } else { 32 }
+}
+
+// The row of the match at a link where so many are left to be looked at; past the rows where there is none.
+fn next_row(left: usize, l: Link) -> usize
+    ensures { λ r. ⌜ r ≡ nextRow left l ⌝ }
+{
+    if left == 0 {
+        return 128;
+    }
+    match l {
+        Link::End => 128,
+        Link::At(i) => i,
+    }
 }
 
 // The store with the chain of commitments from a link on cleared.
