@@ -17,45 +17,33 @@ use Rattle.store.specs.declared.Link.the-variants.{At}
 use Rattle.store.specs.Rows.{tournamentAt, matchAt, clearMatch}
 use Rattle.store.specs.Laws.{far-tournament, far-match}
 use Rattle.store.specs.Find.{childRow, placesFrom}
-use Rattle.store.specs.Routing.{Keeps, frames, walk-none, walk-deep, walk-free, walk-child}
+use Rattle.store.specs.Free.{childBeneath}
+use Rattle.store.specs.Routing.{Keeps, frames, child-depth, walk-none, walk-free, walk-child}
 use Rattle.sound.specs.Tests.{rowOr}
 use Rattle.standing_requests.specs.declared.Order.{Order}
 use Rattle.standing_requests.specs.declared.StandingRequest.{StandingRequest}
 use Rattle.standing_requests.specs.Requests.{requestOf, requestAt, clearRequest}
-use Rattle.standing_requests.specs.Order.{noPlaces, withPlace, withPlaces, orderOf, childBelow}
-
--- a row within the rows is the match's child, and its branch is not full
-below : (d c : ℕ) (v : MatchStatus) → c ≡ childBelow d v → c < 32 → (d < 7) × (c ≡ childRow v)
-below d c v e h = go (ltb d 7) refl
-  where
-    go : (b : Bool) → ltb d 7 ≡ b → (d < 7) × (c ≡ childRow v)
-    go true t = (ltb-true d 7 t, e ∙ rw t)
-    go false t = let z : c ≡ 32 = e ∙ rw t in absurd (omega arith)
+use Rattle.standing_requests.specs.Order.{noPlaces, withPlace, withPlaces, orderOf}
 
 -- past a match whose child is not looked at, and into one that is
 module _ (s : Store) (o : Order) (d : ℕ) (l : Link) (xs : List Link) (x : Order) (n i c : ℕ) (q : Keeps (withPlaces o) s n d l xs x) (h : 0 < n)
-    (e : l ≡ At i) (r : c ≡ childBelow d (matchAt s i .status)) where
+    (e : l ≡ At i) (r : c ≡ childBeneath d (matchAt s i .status)) where
   pub past-none : length (s .tournaments) ≡ 32 → 32 ≤ c → Keeps (withPlaces o) s (n - 1) d (matchAt s i .next) xs x
-  past-none m g = go (ltb d 7) refl
-    where
-      go : (b : Bool) → ltb d 7 ≡ b → Keeps (withPlaces o) s (n - 1) d (matchAt s i .next) xs x
-      go true t = walk-none (withPlaces o) s d l xs x n i c q h e (r ∙ rw t) m g
-      go false t = walk-deep (withPlaces o) s d l xs x n i (childRow (matchAt s i .status)) q h e refl (ltb-false d 7 t)
+  past-none m g = walk-none (withPlaces o) s d l xs x n i c q h e r m g
 
   pub past-free : c < 32 → tournamentAt s c .used ≡ false → Keeps (withPlaces o) s (n - 1) d (matchAt s i .next) xs x
-  past-free g u = let k = below d c (matchAt s i .status) r g in walk-free (withPlaces o) s d l xs x n i c q h e (k .1) (k .0) (ap not u)
+  past-free g u = walk-free (withPlaces o) s d l xs x n i c q h e r g u
 
   pub deeper : c < 32 → d + 1 ≤ 7
-  deeper g = let k : d < 7 = below d c (matchAt s i .status) r g .0 in omega arith
+  deeper g = let k : d < 7 = child-depth d (matchAt s i .status) c r g in omega arith
 
   pub into-child : c < 32 → tournamentAt s c .used ≡ true → length xs ≡ 8 → (p : Order) → p ≡ withPlace o c
       → Keeps (withPlaces p) s (n - 1) (d + 1) (tournamentAt s c .matches) (set xs d (matchAt s i .next)) x
   unfolding withPlaces
   into-child g u y p z =
-      let k = below d c (matchAt s i .status) r g in
       record {
         is = ap (λ w. withPlaces w (placesFrom (n - 1) s (tournamentAt s c .matches) (frames (d + 1) (set xs d (matchAt s i .next))))) z
-            ∙ walk-child (withPlaces o) s d l xs x n i c q h e (k .1) g (k .0) (ap not u) (omega (arith, k .0));
+            ∙ walk-child (withPlaces o) s d l xs x n i c q h e r g u y;
       }
 
 -- before the first step

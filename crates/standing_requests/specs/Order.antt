@@ -6,9 +6,8 @@ use mathlib.Core.List.{List, [], _∷_, map}
 use lib.Dec.{ltb}
 use lib.ListN.{set, replicate}
 use Rattle.store.specs.declared.Store.{Store}
-use Rattle.store.specs.declared.MatchStatus.{MatchStatus}
 use Rattle.store.specs.Rows.{tournamentAt}
-use Rattle.store.specs.Find.{Place, childRow, placesFrom}
+use Rattle.store.specs.Find.{Place, placesFrom}
 use Rattle.standing_requests.specs.declared.Order.{Order}
 use Rattle.standing_requests.specs.declared.StandingRequests.{StandingRequests}
 use Rattle.standing_requests.specs.declared.Collected.the-variants as collected
@@ -28,10 +27,6 @@ withPlaces o (p ∷ ps) = withPlaces (withPlace o (p .row)) ps
 -- the root, and every tournament that is reached from it
 unfoldable pub orderOf : Store → Order
 orderOf s = withPlaces noPlaces (record { row = 0; depth = 0 } ∷ placesFrom 160 s (tournamentAt s 0 .matches) [])
-
--- the row of a match's child, with d tournaments above: past the rows where it would be the ninth of its branch
-abbrev pub childBelow : ℕ → MatchStatus → ℕ
-childBelow d v = cond (ltb d 7) (childRow v) 32
 
 -- the requests for the tournaments in these rows; a row past the last is clear, and so is its request
 unfoldable pub requestsIn : Store → Order → StandingRequests

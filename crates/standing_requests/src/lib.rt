@@ -14,7 +14,7 @@ use store::TournamentRow;
 use store::rows;
 ghost use mathlib.Core.Path.{_≡_};
 ghost use Rattle.standing_requests.specs.Requests.{requestOf, refusedFor, requestsOf};
-ghost use Rattle.standing_requests.specs.Order.{noPlaces, withPlace, childBelow, orderOf, requestsIn};
+ghost use Rattle.standing_requests.specs.Order.{noPlaces, withPlace, orderOf, requestsIn};
 
 // One standing to be read: the tournament's descriptor, and the match that it hangs from, if any.
 pub struct StandingRequest {
@@ -83,7 +83,7 @@ fn routing_order(s: Store) -> Order
             continue;
         }
         let row = s.matches[i];
-        let c = child_below(row, depth);
+        let c = store::child_beneath(row, depth);
         l = row.next;
         if c < 32 {
             let child = s.tournaments[c];
@@ -96,14 +96,6 @@ fn routing_order(s: Store) -> Order
         }
     }
     order
-}
-
-// The row of a match's child; past the rows where there is none, or where it would be the ninth of its branch.
-fn child_below(row: MatchRow, depth: usize) -> usize
-    ensures { λ r. ⌜ r ≡ childBelow depth (row .status) ⌝ }
-{
-    let status = row.status;
-    if depth < 7 { status.child_row() } else { 32 }
 }
 
 // Before the first tournament.

@@ -2,8 +2,8 @@
 use Prim.Native.Nat.{ℕ, zero, suc, _+_, _-_, _*_, _≤_, _<_}
 use native.Mathlib.Omega.{arith}
 use native.Mathlib.Nat.{suc-mul}
-use borrow.Author.Tests.{lt-ltb, le-ltb, ltb-true, ltb-false}
-use mathlib.Core.Bool.{Bool, true, false, cond}
+use borrow.Author.Tests.{ltb-false}
+use mathlib.Core.Bool.{Bool, true, false}
 use mathlib.Core.Path.{_≡_, refl, ap, _∙_, sym, subst}
 use mathlib.Core.Logic.{_≢_}
 use mathlib.Core.List.{List}
@@ -21,6 +21,7 @@ use Rattle.store.specs.declared.Link.{Link}
 use Rattle.store.specs.declared.Link.the-variants.{End, At}
 use Rattle.store.specs.Rows.{clearTournament, clearMatch, clearCommitment, tournamentAt, matchAt, commitmentAt, setTournament, setMatch, setCommitment}
 use Rattle.store.specs.Find.{childRow}
+use Rattle.store.specs.Routing.{child-depth, child-is}
 use Rattle.store.specs.Free.{freeC, freeS, freeM, freeT, enteredAt, pastRow, nextRow, childBeneath}
 
 -- the commitments of a chain
@@ -148,14 +149,6 @@ child-freed n s (Leaf b) m = sym (freeT-far n s 32 (omega arith))
 child-freed n s (Inner c) m = refl
 child-freed n s (Resolved r w) m = sym (freeT-far n s 32 (omega arith))
 
--- a child that is freed is not a ninth level
-pub child-depth : (d : ℕ) (v : MatchStatus) (c : ℕ) → c ≡ childBeneath d v → c < 32 → d < 7
-child-depth d v c f g = go (ltb d 7) refl
-  where
-    go : (b : Bool) → ltb d 7 ≡ b → d < 7
-    go true t = ltb-true d 7 t
-    go false t = let y : c ≡ 32 = rw t at f in absurd (omega (arith, y, g))
-
 -- at its first match
 pub freed-start : (s : Store) (t : ℕ) (xs : List Cursor) (a : Cursor) (o : Store) → a ≡ enteredAt (tournamentAt s t) t
     → o ≡ freeC 256 s (tournamentAt s t .commitments) → freeing 0 xs a o ≡ freeT 8 s t
@@ -215,9 +208,8 @@ module _ (d : ℕ) (xs : List Cursor) (s : Store) (x : Store) where
         let deep : d < 7 = child-depth d (matchAt s i .status) c f g in
         let w : d + 1 ≡ suc d = omega arith in
         let u : 7 - d ≡ suc (7 - suc d) = omega (arith, deep) in
-        let y : c ≡ childRow (matchAt s i .status) = f ∙ ap (λ (b : Bool). cond b (childRow (matchAt s i .status)) 32) (lt-ltb d 7 deep) in
         let o : Store = finish (7 - suc d) (enteredAt (tournamentAt s c) c) (freeC 256 s (tournamentAt s c .commitments)) in
-        let z : freeT (7 - d) s (childRow (matchAt s i .status)) ≡ o = ap (λ (n : ℕ). freeT (7 - d) s n) (sym y) ∙ ap (λ (n : ℕ). freeT n s c) u in
+        let z : freeT (7 - d) s (childRow (matchAt s i .status)) ≡ o = ap (λ (n : ℕ). freeT (7 - d) s n) (sym (child-is d (matchAt s i .status) c f g)) ∙ ap (λ (n : ℕ). freeT n s c) u in
         rw (w, v, v′)
         (ap (λ (b : Cursor). upwards d (set xs d r) (finish (7 - d) b (setMatch o (b .«match_») clearMatch))) (getD-set-same xs d r clearCursor k ∙ p)
         ∙ upwards-set d d r xs (finish (7 - d) (pastRow a i (matchAt s i)) (setMatch o i clearMatch)) (omega arith)

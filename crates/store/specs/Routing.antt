@@ -2,9 +2,9 @@
 -- one step. Nothing here has to be believed. Assumes nothing.
 use Prim.Native.Nat.{ℕ, zero, suc, _+_, _-_, _≤_, _<_}
 use native.Mathlib.Omega.{arith}
-use borrow.Author.Tests.{lt-ltb, le-ltb, not-true, not-false}
+use borrow.Author.Tests.{lt-ltb, le-ltb, ltb-true, ltb-false}
 use mathlib.Core.Path.{_≡_, refl, ap, ap₂, _∙_, subst}
-use mathlib.Core.Bool.{true, false, not, cond, _&&_, and-false}
+use mathlib.Core.Bool.{Bool, true, false, cond, _&&_, and-false}
 use mathlib.Core.List.{List, [], _∷_}
 use lib.Dec.{ltb}
 use lib.ListN.{getD, set, length}
@@ -18,6 +18,7 @@ use Rattle.store.specs.declared.MatchStatus.{MatchStatus}
 use Rattle.store.specs.declared.MatchStatus.the-variants.{Free, Clocked, Leaf, Inner, Resolved}
 use Rattle.store.specs.Rows.{tournamentAt, matchAt, clearMatch}
 use Rattle.store.specs.Find.{Place, childRow, childIn, placesFrom}
+use Rattle.store.specs.Free.{childBeneath}
 use Rattle.store.specs.Laws.{far-tournament, far-match}
 
 -- the stack: the first d places of an array, the last on top
@@ -46,6 +47,17 @@ unfolding frames
 frames-pop zero xs h = absurd (h refl)
 frames-pop (suc d) xs h = let e : suc d - 1 ≡ d = omega arith in rw e
 
+-- The number that the code has of a match's child: where it is a row, that of the child, which is not a ninth level.
+pub child-depth : (d : ℕ) (v : MatchStatus) (c : ℕ) → c ≡ childBeneath d v → c < 32 → d < 7
+child-depth d v c f g = go (ltb d 7) refl
+  where
+    go : (b : Bool) → ltb d 7 ≡ b → d < 7
+    go true t = ltb-true d 7 t
+    go false t = let y : c ≡ 32 = rw t at f in absurd (omega (arith, y, g))
+
+pub child-is : (d : ℕ) (v : MatchStatus) (c : ℕ) → c ≡ childBeneath d v → c < 32 → c ≡ childRow v
+child-is d v c f g = f ∙ ap (λ (b : Bool). cond b (childRow v) 32) (lt-ltb d 7 (child-depth d v c f g))
+
 -- A match's child, whose row the code has as a number.
 module _ (s : Store) (d : ℕ) where
   child-far : (v : MatchStatus) (c : ℕ) → c ≡ childRow v → length (s .tournaments) ≡ 32 → 32 ≤ c → childIn s d v ≡ End
@@ -69,6 +81,13 @@ module _ (s : Store) (d : ℕ) where
   child-free (Leaf b) c e h u = refl
   child-free (Inner i) c e h u = rw (← e, lt-ltb _ _ h, u)
   child-free (Resolved r w) c e h u = refl
+
+  child-none : (v : MatchStatus) (c : ℕ) → c ≡ childBeneath d v → length (s .tournaments) ≡ 32 → 32 ≤ c → childIn s d v ≡ End
+  child-none v c f n h = go (ltb d 7) refl
+    where
+      go : (b : Bool) → ltb d 7 ≡ b → childIn s d v ≡ End
+      go true t = child-far v c (rw t at f) n h
+      go false t = child-deep v (ltb-false d 7 t)
 
   child-used : (v : MatchStatus) (c : ℕ) → c ≡ childRow v → c < 32 → d < 7 → tournamentAt s c .used ≡ true → childIn s d v ≡ At c
   child-used Free c e n h u = absurd (omega arith)
@@ -112,27 +131,29 @@ module _ {X : Type 0} (F : List Place → X) (s : Store) (d : ℕ) (l : Link) (x
       subst (λ (r : MatchRow). Keeps F s (n - 1) d (r .next) xs x) f
       (walk-skip n i q h e (ap (λ (r : MatchRow). childIn s d (r .status)) f))
 
-  -- a match with no child, with one too deep, and with one that is not in use
-  module _ (n i c : ℕ) (q : Keeps F s n d l xs x) (h : 0 < n) (e : l ≡ At i) (r : c ≡ childRow (matchAt s i .status)) where
+  -- a match with no child that is looked at, and with one that is not in use
+  module _ (n i c : ℕ) (q : Keeps F s n d l xs x) (h : 0 < n) (e : l ≡ At i) (b : c ≡ childBeneath d (matchAt s i .status)) where
     pub walk-none : length (s .tournaments) ≡ 32 → 32 ≤ c → Keeps F s (n - 1) d (matchAt s i .next) xs x
-    walk-none m g = walk-skip n i q h e (child-far s d (matchAt s i .status) c r m g)
+    walk-none m g = walk-skip n i q h e (child-none s d (matchAt s i .status) c b m g)
 
-    pub walk-deep : 7 ≤ d → Keeps F s (n - 1) d (matchAt s i .next) xs x
-    walk-deep g = walk-skip n i q h e (child-deep s d (matchAt s i .status) g)
-
-    pub walk-free : d < 7 → not (tournamentAt s c .used) ≡ true → Keeps F s (n - 1) d (matchAt s i .next) xs x
-    walk-free g u = walk-skip n i q h e (child-free s d (matchAt s i .status) c r g (not-true (tournamentAt s c .used) u))
+    pub walk-free : c < 32 → tournamentAt s c .used ≡ false → Keeps F s (n - 1) d (matchAt s i .next) xs x
+    walk-free g u =
+        let v = matchAt s i .status in
+        walk-skip n i q h e (child-free s d v c (child-is d v c b g) (child-depth d v c b g) u)
 
     -- a match with a child that is looked at
-    pub walk-child : c < 32 → d < 7 → not (tournamentAt s c .used) ≡ false → d < length xs
+    pub walk-child : c < 32 → tournamentAt s c .used ≡ true → length xs ≡ 8
         → F (record { row = c; depth = d + 1 } ∷ placesFrom (n - 1) s (tournamentAt s c .matches) (frames (d + 1) (set xs d (matchAt s i .next)))) ≡ x
     unfolding placesFrom
-    walk-child m g u k = go n q h (child-used s d (matchAt s i .status) c r m g (not-false (tournamentAt s c .used) u))
+    walk-child m u k =
+        let v = matchAt s i .status in
+        let g : d < 7 = child-depth d v c b m in
+        go n q h (child-used s d v c (child-is d v c b m) m g u) (omega arith)
       where
-        go : (n : ℕ) → Keeps F s n d l xs x → 0 < n → childIn s d (matchAt s i .status) ≡ At c
+        go : (n : ℕ) → Keeps F s n d l xs x → 0 < n → childIn s d (matchAt s i .status) ≡ At c → d < length xs
             → F (record { row = c; depth = d + 1 } ∷ placesFrom (n - 1) s (tournamentAt s c .matches) (frames (d + 1) (set xs d (matchAt s i .next)))) ≡ x
-        go zero q h y = absurd (omega arith)
-        go (suc n) q h y =
+        go zero q h y k = absurd (omega arith)
+        go (suc n) q h y k =
             let w : suc n - 1 ≡ n = omega arith in
             let v : d + 1 ≡ suc d = omega arith in
             let f : frames (d + 1) (set xs d (matchAt s i .next)) ≡ matchAt s i .next ∷ frames d xs = frames-push d (matchAt s i .next) xs k in

@@ -12,13 +12,14 @@ use domain::OptionDigest;
 use domain::TournamentDescriptor;
 use domain::dispute::WinnerCommitment;
 ghost use mathlib.Core.Path.{_≡_};
+ghost use mathlib.Core.List.{[]};
 ghost use Prim.Native.Nat.{_<_};
 ghost use lib.Dec.{eqb};
 ghost use Rattle.domain.specs.Values.{sameAddress};
 ghost use Rattle.store.specs.Rows.{clearStore, freeStatus, clockedStatus, sameLink};
 ghost use Rattle.store.specs.Scan.{lowestTournament, lowestMatch, lowestCommitment, tournamentsUsed, matchesUsed, commitmentsUsed};
 ghost use Rattle.store.specs.Chain.{hasRoot, hasId, commitmentByRoot, matchById};
-ghost use Rattle.store.specs.Find.{childRow, routeRows};
+ghost use Rattle.store.specs.Find.{childRow, placesFrom, firstWith, routeRows};
 ghost use Rattle.store.specs.Free.{freeC, freeT, enteredAt, pastRow, childBeneath, nextRow};
 
 // A row's number, or the end of a chain.
@@ -362,8 +363,7 @@ pub fn match_by_id_hash(s: Store, t: usize, match_id_hash: Digest) -> Link
     Link::End
 }
 
-// Where an address leads: the root first, then depth first in match order. The matches still to come in the tournaments above wait
-// in `above`, the innermost last.
+// Where an address leads: the root first, then depth first in match order.
 pub fn find_tournament(s: Store, address: Address) -> Route
     ensures { λ r. ⌜ r ≡ routeRows s address ⌝ }
 {
@@ -374,10 +374,17 @@ pub fn find_tournament(s: Store, address: Address) -> Route
     if root.has_address(address) {
         return Route::Found(0, 0);
     }
-    let end = Link::End;
-    let mut above = [end; 8];
+    let head = root.matches;
+    find_beneath(s, address, head)
+}
+
+// The same beneath the root, from the match at a link on. The matches still to come in the tournaments above wait in `above`, the
+// innermost last.
+fn find_beneath(s: Store, address: Address, mut l: Link) -> Route
+    ensures { λ r. ⌜ r ≡ firstWith s address (placesFrom 160 s l []) ⌝ }
+{
+    let mut above = [l; 8];
     let mut depth: usize = 0;
-    let mut l = root.matches;
     let mut left: usize = 160;
     while left > 0 {
         left -= 1;
@@ -394,16 +401,12 @@ pub fn find_tournament(s: Store, address: Address) -> Route
             continue;
         }
         let row = s.matches[i];
-        let status = row.status;
-        let c = status.child_row();
+        let c = child_beneath(row, depth);
         l = row.next;
         if c >= 32 {
             continue;
         }
         let child = s.tournaments[c];
-        if depth >= 7 {
-            continue;
-        }
         if !child.used {
             continue;
         }
@@ -427,13 +430,11 @@ pub fn free_tree(s: Store, t: usize) -> Store
     }
     let top = s.tournaments[t];
     let mut at = entered(top, t);
-    let head = top.commitments;
-    let mut out = free_commitments(s, head);
+    let mut out = free_commitments(s, top);
     let mut above = [at; 8];
     let mut depth: usize = 0;
     loop {
-        let l = at.next;
-        let i = next_row(at.left, l);
+        let i = next_row(at);
         if i >= 128 {
             let done = at.tournament;
             out.tournaments[done] = rows::clear_tournament();
@@ -447,8 +448,7 @@ pub fn free_tree(s: Store, t: usize) -> Store
             continue;
         }
         let row = out.matches[i];
-        let status = row.status;
-        let c = child_beneath(status, depth);
+        let c = child_beneath(row, depth);
         at = past(at, i, row);
         if c >= 32 {
             out.matches[i] = rows::clear_match();
@@ -457,8 +457,7 @@ pub fn free_tree(s: Store, t: usize) -> Store
         above[depth] = at;
         depth += 1;
         let child = out.tournaments[c];
-        let head = child.commitments;
-        out = free_commitments(out, head);
+        out = free_commitments(out, child);
         at = entered(child, c);
     }
 }
@@ -491,31 +490,33 @@ fn past(at: Cursor, i: usize, row: MatchRow) -> Cursor
 }
 
 // The row of the child of a match in a tournament at that depth; past the rows where there is none or it would be a ninth level.
-fn child_beneath(status: MatchStatus, depth: usize) -> usize
-    ensures { λ r. ⌜ r ≡ childBeneath depth status ⌝ }
+pub fn child_beneath(row: MatchRow, depth: usize) -> usize
+    ensures { λ r. ⌜ r ≡ childBeneath depth (row .status) ⌝ }
 {
+    let status = row.status;
     if depth < 7 { status.child_row() } else { 32 }
 }
 
-// The row of the match at a link where so many are left to be looked at; past the rows where there is none.
-fn next_row(left: usize, l: Link) -> usize
-    ensures { λ r. ⌜ r ≡ nextRow left l ⌝ }
+// The row of the next match, where one is left to be looked at; past the rows where there is none.
+fn next_row(at: Cursor) -> usize
+    ensures { λ r. ⌜ r ≡ nextRow (at .left) (at .next) ⌝ }
 {
-    if left == 0 {
+    if at.left == 0 {
         return 128;
     }
+    let l = at.next;
     match l {
         Link::End => 128,
         Link::At(i) => i,
     }
 }
 
-// The store with the chain of commitments from a link on cleared.
-fn free_commitments(s: Store, head: Link) -> Store
-    ensures { λ r. ⌜ r ≡ freeC 256 s head ⌝ }
+// The store with the commitments of a tournament cleared.
+fn free_commitments(s: Store, row: TournamentRow) -> Store
+    ensures { λ r. ⌜ r ≡ freeC 256 s (row .commitments) ⌝ }
 {
     let mut out = s;
-    let mut l = head;
+    let mut l = row.commitments;
     let mut k: usize = 256;
     while k > 0 {
         let Link::At(i) = l else {

@@ -53,11 +53,11 @@ loop-again-2 c = (
 -- into a child
 loop-again-3 : tie.Need-loop-again-3 Inv-loop μ-loop
 loop-again-3 c = (
-  deeper _ _ _ _ _ _ _ _ _ (c .before .before .before .before .before .before .before .before .before .before .before .loop .inv .4) (c .before .before .before .before .before .before .before .before .before .before .loop-test .taken) (c .before .before .before .before .before .before .before .before .l .given .1) (c .before .before .before .before .child-below .ensures) (c .before .before .before .if3 .taken),
+  deeper _ _ _ _ _ _ _ _ _ (c .before .before .before .before .before .before .before .before .before .before .before .loop .inv .4) (c .before .before .before .before .before .before .before .before .before .before .loop-test .taken) (c .before .before .before .before .before .before .before .before .l .given .1) (c .before .before .before .before .child-beneath .ensures) (c .before .before .before .if3 .taken),
   length-set (c .before .before .before .before .before .before .before .before .before .before .before .loop .above) (c .before .before .before .before .before .before .before .before .before .before .before .loop .depth) _ ∙ c .before .before .before .before .before .before .before .before .before .before .before .loop .inv .1,
   c .before .before .before .before .before .before .before .before .before .before .before .loop .inv .2,
   c .before .before .before .before .before .before .before .before .before .before .before .loop .inv .3,
-  into-child _ _ _ _ _ _ _ _ _ (c .before .before .before .before .before .before .before .before .before .before .before .loop .inv .4) (c .before .before .before .before .before .before .before .before .before .before .loop-test .taken) (c .before .before .before .before .before .before .before .before .l .given .1) (c .before .before .before .before .child-below .ensures) (c .before .before .before .if3 .taken) (c .before .if4 .taken) (c .before .before .before .before .before .before .before .before .before .before .before .loop .inv .1) _ (c .with-place2 .ensures),
+  into-child _ _ _ _ _ _ _ _ _ (c .before .before .before .before .before .before .before .before .before .before .before .loop .inv .4) (c .before .before .before .before .before .before .before .before .before .before .loop-test .taken) (c .before .before .before .before .before .before .before .before .l .given .1) (c .before .before .before .before .child-beneath .ensures) (c .before .before .before .if3 .taken) (c .before .if4 .taken) (c .before .before .before .before .before .before .before .before .before .before .before .loop .inv .1) _ (c .with-place2 .ensures),
 )
 
 -- past a match with no child that is looked at
@@ -67,7 +67,7 @@ loop-again-4 c = (
   c .before .before .before .before .before .before .before .before .before .before .loop .inv .1,
   c .before .before .before .before .before .before .before .before .before .before .loop .inv .2,
   c .before .before .before .before .before .before .before .before .before .before .loop .inv .3,
-  past-free _ _ _ _ _ _ _ _ _ (c .before .before .before .before .before .before .before .before .before .before .loop .inv .4) (c .before .before .before .before .before .before .before .before .before .loop-test .taken) (c .before .before .before .before .before .before .before .l .given .1) (c .before .before .before .child-below .ensures) (c .before .before .if3 .taken) (c .if4 .left),
+  past-free _ _ _ _ _ _ _ _ _ (c .before .before .before .before .before .before .before .before .before .before .loop .inv .4) (c .before .before .before .before .before .before .before .before .before .loop-test .taken) (c .before .before .before .before .before .before .before .l .given .1) (c .before .before .before .child-beneath .ensures) (c .before .before .if3 .taken) (c .if4 .left),
 )
 
 loop-again-5 : tie.Need-loop-again-5 Inv-loop μ-loop
@@ -76,7 +76,7 @@ loop-again-5 c = (
   c .before .before .before .before .before .before .before .before .loop .inv .1,
   c .before .before .before .before .before .before .before .before .loop .inv .2,
   c .before .before .before .before .before .before .before .before .loop .inv .3,
-  past-none _ _ _ _ _ _ _ _ _ (c .before .before .before .before .before .before .before .before .loop .inv .4) (c .before .before .before .before .before .before .before .loop-test .taken) (c .before .before .before .before .before .l .given .1) (c .before .child-below .ensures) (c .before .before .before .before .before .before .before .before .loop .inv .2) (c .if3 .left),
+  past-none _ _ _ _ _ _ _ _ _ (c .before .before .before .before .before .before .before .before .loop .inv .4) (c .before .before .before .before .before .before .before .loop-test .taken) (c .before .before .before .before .before .l .given .1) (c .before .child-beneath .ensures) (c .before .before .before .before .before .before .before .before .loop .inv .2) (c .if3 .left),
 )
 
 returns-2 : tie.Need-returns-2 Inv-loop μ-loop

@@ -1,4 +1,4 @@
--- `child_beneath` answers the row of a child that is freed with its match. Assumes nothing.
+-- `child_beneath` answers the row of a match's child. Assumes nothing.
 use borrow.Author.Needs.{needs}
 use borrow.Author.Tests.{lt-ltb, le-ltb}
 use Rattle.store.proofs.child_beneath.Statement.{statement}

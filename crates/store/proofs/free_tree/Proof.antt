@@ -7,7 +7,8 @@ use mathlib.Core.Path.{_≡_, refl, ap, _∙_, sym}
 use lib.ListN.{length, length-map, length-set}
 use Rattle.store.specs.declared.Cursor.{Cursor}
 use Rattle.store.specs.Rows.{tournamentAt, matchAt}
-use Rattle.store.proofs.Freeing.{freeT-far, freeing, Within, within-none, within-into, within-up, steps, steps-up, steps-past, steps-into, next-left, child-depth, freed-start, freed-done, freed-all, freed-up, freed-past, freed-into}
+use Rattle.store.proofs.Freeing.{freeT-far, freeing, Within, within-none, within-into, within-up, steps, steps-up, steps-past, steps-into, next-left, freed-start, freed-done, freed-all, freed-up, freed-past, freed-into}
+use Rattle.store.specs.Routing.{child-depth}
 use Rattle.store.proofs.free_tree.Statement.{statement}
 use Rattle.store.proofs.free_tree.Tie as tie
 
@@ -40,9 +41,6 @@ returns-2 c =
     ∙ freed-start (c .before .before .before .before .before .before .before .before .before .args .t1) (c .before .before .before .before .before .before .before .before .before .args .t) _ _ _ (c .before .before .before .before .before .before .entered .ensures) (c .before .before .before .before .before .free-commitments .ensures)
 
 -- to the tournament above
-mul-t28-2 : tie.Need-mul-t28-2 Inv-loop μ-loop
-mul-t28-2 c = search (needs, within-up (c .before .before .before .before .before .before .loop .depth) (c .before .before .before .before .before .before .loop .above) (c .before .before .if3 .left) (c .before .before .before .before .before .before .loop .inv .5))
-
 element-set-from-out-2 : tie.Need-element-set-from-out-2 Inv-loop μ-loop
 element-set-from-out-2 c = search (needs, within-up (c .before .before .before .before .before .before .loop .depth) (c .before .before .before .before .before .before .loop .above) (c .before .before .if3 .left) (c .before .before .before .before .before .before .loop .inv .5))
 
@@ -104,7 +102,7 @@ free-tree-spec =
     tie.close
     (tie.spec Inv-loop μ-loop returns (λ c. search needs) (λ c. search needs) (λ c κs. search needs) (λ c κs. search needs) loop-holds
     (λ c κs. search needs) (λ c κs. search needs) (λ c. search needs) (λ c. search needs) returns-2 (λ c. search needs) (λ c. search needs)
-    (λ c. search needs) (λ c κs. search needs) mul-t28-2 element-set-from-out-2 loop-less loop-again (λ c. search needs)
+    (λ c. search needs) (λ c κs. search needs) (λ c. search (needs, within-up (c .before .before .before .before .before .before .loop .depth) (c .before .before .before .before .before .before .loop .above) (c .before .before .if3 .left) (c .before .before .before .before .before .before .loop .inv .5))) element-set-from-out-2 loop-less loop-again (λ c. search needs)
     (λ c. search needs) (λ c κs. search needs) past-requires (λ c κs. search needs) (λ c. search needs) (λ c. search needs)
     loop-less-2 loop-again-2 (λ c. search needs) (λ c. search needs) (λ c. search needs) (λ c. search needs) (λ c. search needs)
     (λ c κs. search needs) (λ c κs. search needs) loop-less-3 loop-again-3)

@@ -5,10 +5,10 @@ use Rattle.store.proofs.next_row.Statement.{statement}
 use Rattle.store.proofs.next_row.Tie as tie
 
 returns-2 : tie.Need-returns-2
-returns-2 c = next-end (c .before .before .before .args .left) _ (c .enum-told .given .1)
+returns-2 c = next-end (c .before .before .before .before .args .at .left) _ (c .enum-told .given .1)
 
 returns-3 : tie.Need-returns-3
-returns-3 c = next-is (c .before .before .before .before .args .left) _ _ (c .before .before .before .if1 .left) (c .before .l .given .1)
+returns-3 c = next-is (c .before .before .before .before .before .args .at .left) _ _ (c .before .before .before .if1 .left) (c .before .l .given .1)
 
 pub next-row-spec : {M : Type 1} → statement M
 next-row-spec = tie.close (tie.spec (λ c. search needs) (λ c. search needs) (λ c. search needs) returns-2 returns-3)
