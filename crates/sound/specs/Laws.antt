@@ -1,7 +1,7 @@
 -- Lemmas only, for this crate's proofs and for other crates: nothing here has to be believed. Each walk has the laws of a loop that
 -- keeps `.. ≡ x`: what it may answer, and one step. A walk reads its link as a number, n at an end, and rows from n on are clear.
 -- Assumes nothing.
-use Prim.Native.Nat.{ℕ, zero, suc, _-_, _≤_, _<_}
+use Prim.Native.Nat.{ℕ, zero, suc, _+_, _-_, _≤_, _<_}
 use native.Mathlib.Omega.{arith}
 use mathlib.Core.Path.{_≡_, refl, ap, ap₂, _∙_, sym}
 use mathlib.Core.Logic.{_⊎_, inl, inr}
@@ -22,14 +22,15 @@ use Rattle.store.specs.declared.MatchRow.{MatchRow}
 use Rattle.store.specs.declared.CommitmentRow.{CommitmentRow}
 use Rattle.store.specs.declared.Link.{Link}
 use Rattle.store.specs.declared.Link.the-variants.{End, At}
-use Rattle.store.specs.Rows.{tournamentAt, matchAt, commitmentAt, usedTournament, usedCommitment, freeStatus, sameLink}
+use Rattle.store.specs.Rows.{tournamentAt, matchAt, commitmentAt, usedTournament, usedMatch, usedCommitment, freeStatus, clockedStatus, sameLink}
+use Rattle.store.specs.Scan.{allAt}
 use Rattle.store.specs.Chain.{nextMatch, nextCommitment, hasRoot}
 use Rattle.store.specs.declared.MatchStatus.{MatchStatus}
 use Rattle.store.specs.declared.MatchStatus.the-variants.{Free, Clocked, Leaf, Inner, Resolved}
 use Rattle.store.specs.Find.{childRow}
 use Rattle.store.specs.Laws.{far-tournament, far-match, far-commitment}
-use Rattle.sound.specs.Tests.{isEnd, rowOr, sameLatest}
-use Rattle.sound.specs.Sound.{meets, runs, rises, risesBy, rowFits, rowStands, commitmentIn, matchIn, latestFrom, laterOf, namesRoot, latestOf, bothJoined, matchJoined, commitmentLatest, childFits, childOrRoot, matchFits}
+use Rattle.sound.specs.Tests.{isEnd, rowOr, sameLatest, isClearMatch}
+use Rattle.sound.specs.Sound.{meets, runs, rises, risesBy, rowFits, rowStands, tournamentRises, commitmentIn, matchIn, commitmentsChained, matchesChained, chained, commitmentReached, commitmentFitting, commitmentMet, latestFrom, laterOf, namesRoot, latestOf, bothJoined, matchJoined, commitmentLatest, childFits, childOrRoot, matchFits, matchReached, matchFitting, matchMet, soundRows}
 
 -- a link that is a row's number
 pub row-at : (n : ℕ) (l : Link) (j : ℕ) → j ≡ rowOr n l → j < n → l ≡ At j
@@ -82,6 +83,22 @@ no-right a b e = rw (sym e) (and-false a)
 pub both-hold : (a b : Bool) → true ≡ a → true ≡ b → (a && b) ≡ true
 both-hold a b e f = rw (sym e, sym f)
 
+-- a scan of two tests at once, and of a test that is another
+pub all-both : (f g : ℕ → Bool) (i n : ℕ) → allAt (λ j. f j && g j) i n ≡ (allAt f i n && allAt g i n)
+unfolding allAt
+all-both f g i zero = refl
+all-both f g i (suc n) = rw (all-both f g (i + 1) n) (go (f i) (g i) (allAt f (i + 1) n) (allAt g (i + 1) n))
+  where
+    go : (a b x y : Bool) → cond (a && b) (x && y) false ≡ (cond a x false && cond b y false)
+    go true true x y = refl
+    go true false x y = sym (and-false x)
+    go false b x y = refl
+
+all-same : (f g : ℕ → Bool) (i n : ℕ) → ((j : ℕ) → f j ≡ g j) → allAt f i n ≡ allAt g i n
+unfolding allAt
+all-same f g i zero e = refl
+all-same f g i (suc n) e = rw (e i, all-same f g (i + 1) n e)
+
 -- how many rows a store has
 pub record Sized (s : Store) : Type 0 where
   pub tournaments : length (s .tournaments) ≡ 32
@@ -128,19 +145,18 @@ module _ (s : Store) (m : MatchRow) (i c : ℕ) (e : c ≡ childOrRoot (m .statu
       → b ≡ rowFits used (matchFits m (tournamentAt s (childOrRoot (m .status)) .parent) i) clear
   fits-child used clear b q = q ∙ ap (λ (n : ℕ). rowFits used (matchFits m (tournamentAt s n .parent) i) clear) e
 
-  pub child-far : (walk clear : Bool) → Sized s → 32 ≤ c
-      → rowStands (not (freeStatus (m .status))) (matchFits m (tournamentAt s (childOrRoot (m .status)) .parent) i) walk clear ≡ false
-  unfolding rowStands matchFits
-  child-far walk clear z h = go (m .status) (sameDigest (idHash (m .id)) (m .«id_hash»)) (rw e at h)
+  pub child-far : (clear : Bool) → Sized s → 32 ≤ c
+      → rowFits (not (freeStatus (m .status))) (matchFits m (tournamentAt s (childOrRoot (m .status)) .parent) i) clear ≡ false
+  unfolding rowFits matchFits
+  child-far clear z h = go (m .status) (sameDigest (idHash (m .id)) (m .«id_hash»)) (rw e at h)
     where
       go : (v : MatchStatus) (b : Bool) → 32 ≤ childOrRoot v
-          → cond (not (freeStatus v)) (b && childFits v (tournamentAt s (childOrRoot v) .parent) i && walk) clear ≡ false
+          → cond (not (freeStatus v)) (b && childFits v (tournamentAt s (childOrRoot v) .parent) i) clear ≡ false
       go Free b h = absurd (omega arith)
       go (Clocked n) b h = absurd (omega arith)
       go (Leaf n) b h = absurd (omega arith)
       go (Inner n) b h =
-          ap (λ (r : TournamentRow). b && sameLink (r .parent) (At i) && walk) (far-tournament s n (z .tournaments) h)
-          ∙ ap (λ (y : Bool). y && walk) (and-false b)
+          ap (λ (r : TournamentRow). b && sameLink (r .parent) (At i)) (far-tournament s n (z .tournaments) h) ∙ and-false b
       go (Resolved r w) b h = absurd (omega arith)
 
 -- A loop that keeps `meets .. k l ≡ x`.
@@ -361,3 +377,62 @@ module _ (s : Store) where
 
     pub rises-on : not (usedTournament s t && eqb c t) ≡ false → rises (k - 1) s (matchAt s j .tournament) ≡ x
     rises-on d = let b : (usedTournament s t && eqb c t) ≡ true = not-false (usedTournament s t && eqb c t) d in rw b at hangs
+
+-- The whole test, in its parts.
+
+commitment-both : (s : Store) (i : ℕ) → commitmentReached s i ≡ (commitmentFitting s i && commitmentMet s i)
+unfolding rowStands rowFits
+commitment-both s i = go (usedCommitment s i) _ _
+  where
+    go : (b walk clear : Bool) → cond b walk clear ≡ (cond b true clear && cond b walk true)
+    go true walk clear = refl
+    go false walk clear = sym (and-true clear)
+
+match-both : (s : Store) (i : ℕ) → matchReached s i ≡ (matchFitting s i && matchMet s i)
+unfolding rowStands rowFits
+match-both s i = go (freeStatus (matchAt s i .status)) _ _ _
+  where
+    go : (b fits walk clear : Bool) → cond (not b) (fits && walk) clear ≡ (cond (not b) fits clear && cond b true walk)
+    go true fits walk clear = sym (and-true clear)
+    go false fits walk clear = refl
+
+regroup : (a b b′ c c′ d e f f′ : Bool) → (a && b && b′ && c && c′ && d && e && f && f′) ≡ (a && (b && b′) && (c && c′) && d && e && (f && f′))
+regroup true b b′ c c′ d e f f′ =
+    and-assoc (b && b′ && c && c′ && d && e) f f′ ∙ ap (λ (x : Bool). x && d && e && (f && f′)) (and-assoc (b && b′) c c′)
+regroup false b b′ c c′ d e f f′ = refl
+
+pub sound-parts : (s : Store) (a b b′ c c′ d e f f′ : Bool) → a ≡ allAt (tournamentRises s) 0 32 → b ≡ allAt (commitmentsChained s) 0 32
+    → b′ ≡ allAt (matchesChained s) 0 32 → c ≡ allAt (commitmentFitting s) 0 256 → c′ ≡ allAt (commitmentMet s) 0 256
+    → d ≡ allAt (commitmentLatest s) 0 256 → e ≡ allAt (matchJoined s) 0 128 → f ≡ allAt (matchFitting s) 0 128
+    → f′ ≡ allAt (matchMet s) 0 128 → (a && b && b′ && c && c′ && d && e && f && f′) ≡ soundRows s
+unfolding soundRows
+sound-parts s a b b′ c c′ d e f f′ pa pb pb′ pc pc′ pd pe pf pf′ =
+    let q : allAt (chained s) 0 32 ≡ (b && b′) = all-both (commitmentsChained s) (matchesChained s) 0 32 ∙ ap₂ _&&_ (sym pb) (sym pb′) in
+    let p : allAt (commitmentReached s) 0 256 ≡ (c && c′) =
+    all-same (commitmentReached s) (λ i. commitmentFitting s i && commitmentMet s i) 0 256 (commitment-both s)
+    ∙ all-both (commitmentFitting s) (commitmentMet s) 0 256 ∙ ap₂ _&&_ (sym pc) (sym pc′) in
+    let r : allAt (matchReached s) 0 128 ≡ (f && f′) =
+    all-same (matchReached s) (λ i. matchFitting s i && matchMet s i) 0 128 (match-both s)
+    ∙ all-both (matchFitting s) (matchMet s) 0 128 ∙ ap₂ _&&_ (sym pf) (sym pf′) in
+    rw (← pa, q, p, ← pd, ← pe, r) (regroup a b b′ c c′ d e f f′)
+
+-- a commitment that is free or in use
+module _ (s : Store) (i : ℕ) where
+  pub commitment-free : usedCommitment s i ≡ false → commitmentMet s i ≡ true
+  commitment-free e = rw e
+
+  pub commitment-used : usedCommitment s i ≡ true → commitmentMet s i
+      ≡ meets (nextCommitment s) (λ j. eqb j i) (λ j. sameDigest (commitmentAt s j .root) (commitmentAt s i .root)) 256
+      (tournamentAt s (commitmentAt s i .tournament) .commitments)
+  commitment-used e = rw e
+
+-- a match that is free or in use
+module _ (s : Store) (i : ℕ) where
+  pub met-free : freeStatus (matchAt s i .status) ≡ true → matchMet s i ≡ true
+  met-free e = rw e
+
+  pub met-used : freeStatus (matchAt s i .status) ≡ false → matchMet s i
+      ≡ meets (nextMatch s) (λ j. eqb j i)
+      (λ j. not (clockedStatus (matchAt s i .status)) && sameDigest (matchAt s j .«id_hash») (matchAt s i .«id_hash»)) 128
+      (tournamentAt s (matchAt s i .tournament) .matches)
+  met-used e = rw e

@@ -91,6 +91,17 @@ commitmentReached s i =
     (tournamentAt s (commitmentAt s i .tournament) .commitments))
     (isClearCommitment (commitmentAt s i))
 
+-- the same in two: every free row is clear, and every commitment in use is met
+abbrev pub commitmentFitting : Store → ℕ → Bool
+commitmentFitting s i = rowFits (usedCommitment s i) true (isClearCommitment (commitmentAt s i))
+
+abbrev pub commitmentMet : Store → ℕ → Bool
+commitmentMet s i =
+    cond (usedCommitment s i)
+    (meets (nextCommitment s) (λ j. eqb j i) (λ j. sameDigest (commitmentAt s j .root) (commitmentAt s i .root)) 256
+    (tournamentAt s (commitmentAt s i .tournament) .commitments))
+    true
+
 -- "each commitment's latest match the last created that names it (none if none)"
 
 -- a match in use names the commitment with that root
@@ -157,6 +168,20 @@ matchReached s i =
     (λ j. not (clockedStatus (matchAt s i .status)) && sameDigest (matchAt s j .«id_hash») (matchAt s i .«id_hash»)) 128
     (tournamentAt s (matchAt s i .tournament) .matches))
     (isClearMatch (matchAt s i))
+
+-- the same in two: every row fits, and every match in use is met
+abbrev pub matchFitting : Store → ℕ → Bool
+matchFitting s i =
+    rowFits (usedMatch s i)
+    (matchFits (matchAt s i) (tournamentAt s (childOrRoot (matchAt s i .status)) .parent) i)
+    (isClearMatch (matchAt s i))
+
+abbrev pub matchMet : Store → ℕ → Bool
+matchMet s i =
+    cond (freeStatus (matchAt s i .status)) true
+    (meets (nextMatch s) (λ j. eqb j i)
+    (λ j. not (clockedStatus (matchAt s i .status)) && sameDigest (matchAt s j .«id_hash») (matchAt s i .«id_hash»)) 128
+    (tournamentAt s (matchAt s i .tournament) .matches))
 
 -- the whole test
 unfoldable pub soundRows : Store → Bool

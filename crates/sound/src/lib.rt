@@ -19,29 +19,23 @@ ghost use mathlib.Core.Path.{_≡_};
 ghost use mathlib.Core.Bool.{true, not};
 ghost use Rattle.store.specs.Rows.{freeStatus};
 ghost use Rattle.store.specs.Scan.{allAt};
+ghost use Rattle.store.specs.Find.{childRow};
 ghost use Rattle.sound.specs.Tests.{isEnd, rowOr, sameLatest, leafKind, descriptorOk, isZero, isClearDescriptor, isClearTournament, isClearMatch, isClearCommitment};
-ghost use Rattle.sound.specs.Sound.{rowFits, fitsRow, tournamentRises, chained, commitmentReached, commitmentLatest, matchJoined, matchReached, namesRoot, matchFits, childFits, childOrRoot, soundRows};
+ghost use Rattle.sound.specs.Sound.{rowFits, fitsRow, tournamentRises, commitmentsChained, matchesChained, commitmentFitting, commitmentMet, commitmentLatest, matchJoined, matchFitting, matchMet, namesRoot, matchFits, childFits, childOrRoot, soundRows};
 
 // Whether the store is sound. Every public entry over a store, except opening, answers 61 where it is not.
 pub fn sound(s: Store) -> bool
     ensures { λ r. ⌜ r ≡ soundRows s ⌝ }
 {
-    if !tournaments_rise(s) {
-        return false;
-    }
-    if !chains_hold(s) {
-        return false;
-    }
-    if !commitments_reached(s) {
-        return false;
-    }
-    if !latest_right(s) {
-        return false;
-    }
-    if !matches_joined(s) {
-        return false;
-    }
-    matches_reached(s)
+    tournaments_rise(s)
+        & commitments_chained(s)
+        & matches_chained(s)
+        & commitments_clear(s)
+        & commitments_met(s)
+        & latest_right(s)
+        & matches_joined(s)
+        & matches_fit(s)
+        & matches_met(s)
 }
 
 // Whether each tournament in use fits its row and rises to row 0 by at most 8 tournaments, and each free row is clear.
@@ -50,16 +44,15 @@ fn tournaments_rise(s: Store) -> bool
 {
     let mut n: usize = 0;
     'rows: while n < 32 {
-        let t = n;
-        n += 1;
-        let row = s.tournaments[t];
-        if !tournament_fits(row, t) {
+        let row = s.tournaments[n];
+        if !tournament_fits(row, n) {
             return false;
         }
+        let mut u = n;
+        n += 1;
         if !row.used {
             continue;
         }
-        let mut u = t;
         let mut k: usize = 8;
         while k > 0 {
             if u >= 32 {
@@ -75,8 +68,7 @@ fn tournaments_rise(s: Store) -> bool
                 return false;
             }
             let delegated = s.matches[j];
-            let status = delegated.status;
-            if !(above.used & (status.child_row() == u)) {
+            if !(above.used & (child_row(delegated) == u)) {
                 return false;
             }
             u = delegated.tournament;
@@ -87,9 +79,9 @@ fn tournaments_rise(s: Store) -> bool
     true
 }
 
-// Whether the chains of each tournament end and hold only rows in use that name it, and `last` is the last match.
-fn chains_hold(s: Store) -> bool
-    ensures { λ r. ⌜ r ≡ allAt (chained s) 0 32 ⌝ }
+// Whether each tournament's chain of commitments ends and holds only rows in use that name it.
+fn commitments_chained(s: Store) -> bool
+    ensures { λ r. ⌜ r ≡ allAt (commitmentsChained s) 0 32 ⌝ }
 {
     let mut t: usize = 0;
     while t < 32 {
@@ -111,6 +103,18 @@ fn chains_hold(s: Store) -> bool
         if !is_end(c) {
             return false;
         }
+        t += 1;
+    }
+    true
+}
+
+// Whether each tournament's chain of matches ends and holds only rows in use that name it, and `last` is the last of them.
+fn matches_chained(s: Store) -> bool
+    ensures { λ r. ⌜ r ≡ allAt (matchesChained s) 0 32 ⌝ }
+{
+    let mut t: usize = 0;
+    while t < 32 {
+        let tournament = s.tournaments[t];
         let last = tournament.last;
         let mut prior = Link::End;
         let mut l = tournament.matches;
@@ -137,18 +141,30 @@ fn chains_hold(s: Store) -> bool
     true
 }
 
-// Whether each commitment in use is met by its tournament's chain with none of the same root before it, and each free row is clear.
-fn commitments_reached(s: Store) -> bool
-    ensures { λ r. ⌜ r ≡ allAt (commitmentReached s) 0 256 ⌝ }
+// Whether each commitment's row that is free is clear.
+fn commitments_clear(s: Store) -> bool
+    ensures { λ r. ⌜ r ≡ allAt (commitmentFitting s) 0 256 ⌝ }
+{
+    let mut i: usize = 0;
+    while i < 256 {
+        let row = s.commitments[i];
+        if !commitment_fits(row) {
+            return false;
+        }
+        i += 1;
+    }
+    true
+}
+
+// Whether each commitment in use is met by its tournament's chain with none of the same root before it.
+fn commitments_met(s: Store) -> bool
+    ensures { λ r. ⌜ r ≡ allAt (commitmentMet s) 0 256 ⌝ }
 {
     let mut n: usize = 0;
     'rows: while n < 256 {
         let i = n;
         n += 1;
         let row = s.commitments[i];
-        if !commitment_fits(row) {
-            return false;
-        }
         if !row.used {
             continue;
         }
@@ -262,19 +278,15 @@ fn matches_joined(s: Store) -> bool
     true
 }
 
-// Whether each match in use keeps its id hash, its child names it, and it is met by its tournament's chain, with none of the same
-// id hash before it unless it is clocked; and each free row is clear.
-fn matches_reached(s: Store) -> bool
-    ensures { λ r. ⌜ r ≡ allAt (matchReached s) 0 128 ⌝ }
+// Whether each match in use keeps its id hash and its child names it, and each free row is clear.
+fn matches_fit(s: Store) -> bool
+    ensures { λ r. ⌜ r ≡ allAt (matchFitting s) 0 128 ⌝ }
 {
-    let mut n: usize = 0;
-    'rows: while n < 128 {
-        let i = n;
-        n += 1;
+    let mut i: usize = 0;
+    while i < 128 {
         let row = s.matches[i];
         let status = row.status;
         let c = child_or_root(status);
-        let t = row.tournament;
         if c >= 32 {
             return false;
         }
@@ -283,14 +295,29 @@ fn matches_reached(s: Store) -> bool
         if !match_fits(row, parent, i) {
             return false;
         }
+        i += 1;
+    }
+    true
+}
+
+// Whether each match in use is met by its tournament's chain, with none of the same id hash before it unless it is clocked.
+fn matches_met(s: Store) -> bool
+    ensures { λ r. ⌜ r ≡ allAt (matchMet s) 0 128 ⌝ }
+{
+    let mut n: usize = 0;
+    'rows: while n < 128 {
+        let i = n;
+        n += 1;
+        let row = s.matches[i];
+        let status = row.status;
         if status.is_free() {
             continue;
         }
+        let t = row.tournament;
         if t >= 32 {
             return false;
         }
         let clocked = status.is_clocked();
-        let id_hash = row.id_hash;
         let tournament = s.tournaments[t];
         let mut l = tournament.matches;
         let mut k: usize = 128;
@@ -303,7 +330,7 @@ fn matches_reached(s: Store) -> bool
                 continue 'rows;
             }
             let other = s.matches[j];
-            if !clocked & digest::equal(other.id_hash, id_hash) {
+            if !clocked & digest::equal(other.id_hash, row.id_hash) {
                 return false;
             }
             l = other.next;
@@ -360,6 +387,14 @@ fn descriptor_ok(d: TournamentDescriptor) -> bool
         Checked::Accepted => true,
         Checked::Refused(_) => false,
     }
+}
+
+// The row that a delegated match names as its child, past the rows for any other.
+fn child_row(row: MatchRow) -> usize
+    ensures { λ r. ⌜ r ≡ childRow (row .status) ⌝ }
+{
+    let status = row.status;
+    status.child_row()
 }
 
 // Whether a match that is delegated has the child whose parent link is given.

@@ -12,10 +12,10 @@ use Rattle.sound.proofs.tournaments_rise.Statement.{statement}
 use Rattle.sound.proofs.tournaments_rise.Tie as tie
 
 abbrev Inv-loop : tie.InvT-loop
-Inv-loop s n t u₀ k₀ u k = rises k s u ≡ tournamentRises s t
+Inv-loop s n u₀ k₀ u k = rises k s u ≡ tournamentRises s u₀
 
 abbrev μ-loop : tie.MeasureT-loop
-μ-loop s n t u₀ k₀ u k = k
+μ-loop s n u₀ k₀ u k = k
 
 abbrev Inv-rows : tie.InvT-rows
 Inv-rows s n₀ n = Sized s × (n ≤ 32) × (allAt (tournamentRises s) n (32 - n) ≡ allAt (tournamentRises s) 0 32)
@@ -59,9 +59,4 @@ returns-6 : tie.Need-returns-6 Inv-loop μ-loop Inv-rows μ-rows
 returns-6 c = all-end _ _ 32 _ (c .before .rows .inv .2) (omega arith)
 
 pub tournaments-rise-spec : {M : Type 1} → statement M
-tournaments-rise-spec =
-    tie.close
-    (tie.spec Inv-loop μ-loop Inv-rows μ-rows rows-holds (λ c. search needs) (λ c. search needs) (λ c. search needs)
-    (λ c κs. search needs) returns (λ c. search needs) rows-again loop-holds returns-2 (λ c. search needs) (λ c. search needs)
-    (λ c κs. search needs) (λ c κs. search needs) (λ c. search needs) rows-again-2 returns-3 (λ c. search needs)
-    (λ c. search needs) (λ c κs. search needs) returns-4 (λ c. search needs) (λ c. search needs) loop-again returns-5 returns-6)
+tournaments-rise-spec = tie.close (tie.spec Inv-loop μ-loop Inv-rows μ-rows rows-holds (λ c. search needs) (λ c. search needs) (λ c κs. search needs) returns (λ c. search needs) (λ c. search needs) rows-again loop-holds returns-2 (λ c. search needs) (λ c. search needs) (λ c κs. search needs) (λ c κs. search needs) (λ c. search needs) rows-again-2 returns-3 (λ c. search needs) (λ c. search needs) (λ c κs. search needs) returns-4 (λ c. search needs) (λ c. search needs) loop-again returns-5 returns-6)
