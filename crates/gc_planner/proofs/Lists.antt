@@ -7,7 +7,7 @@ use mathlib.Core.Bool.{Bool, true, false}
 use mathlib.Core.List.{List}
 use borrow.Author.Tests.{eqb-true, eqb-false}
 use lib.Dec.{eqb}
-use lib.ListN.{length, getD, set, length-set}
+use lib.ListN.{length, getD, set, replicate, length-set}
 use lib.Seq.{getD-set-same, getD-set-other}
 use Rattle.domain.specs.declared.Address.{Address}
 use Rattle.domain.specs.declared.OptionAddress.{OptionAddress}
@@ -18,9 +18,10 @@ use Rattle.gc_walk.specs.declared.Seen.the-variants.{Missing, Eliminable, Other
 use Rattle.gc_walk.specs.declared.Outline.{Outline}
 use Rattle.store.specs.declared.Store.{Store}
 use Rattle.store.specs.Rows.{tournamentAt, matchAt}
+use Rattle.gc_planner.specs.declared.StandingRow.{StandingRow}
 use Rattle.gc_planner.specs.declared.Told.{Told}
 use Rattle.gc_planner.specs.Outline.{lineOf, matchLineOf, blankOutline, outlineTo, outlineOf}
-use Rattle.gc_planner.specs.Standings.{noAddress, fill, seenFrom, toldSeen, thereOf, twiceFrom}
+use Rattle.gc_planner.specs.Standings.{noAddress, clearRow, clearTold, toldOf, empty, put, gather, gathered, rowsFrom, fill, seenFrom, toldSeen, thereOf, twiceFrom}
 
 more : (i n : ℕ) → i < n → n - i ≡ suc (n - (i + 1))
 more i n h = omega arith
@@ -100,3 +101,35 @@ pub outline-filled : (s : Store) (says : Address → Seen) (t i : ℕ) (o₀ o :
     → ((tells : Address → Seen) → o₀ ≡ outlineTo s tells 32 0 → o ≡ outlineTo s tells 32 i) → o ≡ outlineOf s says
 outline-filled s says t i o₀ o et ei p q =
     subst (λ (k : ℕ). o ≡ outlineTo s says 32 k) ei (q says (subst (λ (k : ℕ). o₀ ≡ outlineTo s says k 0) et p))
+
+-- what agrees at the places that are filled
+pub fill-same : {A : Type 0} (f g : ℕ → A) (n : ℕ) (xs : List A) → ((i : ℕ) → i < n → f i ≡ g i) → fill f n xs ≡ fill g n xs
+unfolding fill
+fill-same f g zero xs h = refl
+fill-same f g (suc n) xs h = λ k. set (fill-same f g n xs (λ i l. h i (omega arith)) k) n (h n (omega arith) k)
+
+-- The rows that a list by value holds.
+pub rows-length : (rows : List StandingRow) (i n : ℕ) → length (rowsFrom rows i n) ≡ n
+unfolding rowsFrom
+rows-length rows i zero = refl
+rows-length rows i (suc n) = ap suc (rows-length rows (i + 1) n)
+
+rows-at : (rows : List StandingRow) (n i j : ℕ) → j < n → getD (rowsFrom rows i n) j clearRow ≡ getD rows (i + j) clearRow
+unfolding rowsFrom
+rows-at rows zero i j h = absurd (omega arith)
+rows-at rows (suc n) i zero h = let e : i + 0 ≡ i = omega arith in rw e refl
+rows-at rows (suc n) i (suc j) h = let e : i + suc j ≡ i + 1 + j = omega arith in rw e (rows-at rows n (i + 1) j (omega arith))
+
+pub rows-gathered : (rows : List StandingRow) (n : ℕ) → gather rows n ≡ gathered (rowsFrom rows 0 n)
+unfolding gather
+rows-gathered rows n =
+    let e : length (rowsFrom rows 0 n) ≡ n = rows-length rows 0 n in
+    rw e (ap (λ l. record { rows = l }) (fill-same _ _ n _ (λ i h. let z : 0 + i ≡ i = omega arith in sym (ap toldOf (rows-at rows n 0 i h ∙ ap (λ (k : ℕ). getD rows k clearRow) z)))))
+
+pub gather-more : (rows : List StandingRow) (i : ℕ) → put (gather rows i) i (getD rows i clearRow) ≡ gather rows (i + 1)
+unfolding gather put
+gather-more rows i = ap (λ l. record { rows = l }) (fill-more (λ j. toldOf (getD rows j clearRow)) i (replicate 32 clearTold))
+
+pub gather-none : (rows : List StandingRow) → empty ≡ gather rows 0
+unfolding gather empty fill
+gather-none rows = refl

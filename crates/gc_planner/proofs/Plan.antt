@@ -49,15 +49,15 @@ module _ (s : Store) (st : Standings) (count at : ℕ) (r : GcPlan) where
         listed : (ys : List StandingRow) → count ≡ length ys → length ys ≤ 32
         listed ys ec = subst (λ (n : ℕ). n ≤ 32) ec few
 
-        twice-said : (ys : List StandingRow) → st ≡ gathered ys → count ≡ length ys → twiceFrom (toldAt st) 0 count ≡ twice [] ys
+        twice-said : (ys : List StandingRow) → (length ys ≤ 32 → st ≡ gathered ys) → count ≡ length ys → twiceFrom (toldAt st) 0 count ≡ twice [] ys
         twice-said ys es ec =
-            ap (λ (x : Standings). twiceFrom (toldAt x) 0 count) es
+            ap (λ (x : Standings). twiceFrom (toldAt x) 0 count) (es (listed ys ec))
             ∙ ap (λ (n : ℕ). twiceFrom (toldAt (gathered ys)) 0 n) ec
             ∙ told-twice ys (listed ys ec)
 
-        told-by : (ys : List StandingRow) → st ≡ gathered ys → count ≡ length ys → toldBy (toldAt st) count ≡ saidBy ys
+        told-by : (ys : List StandingRow) → (length ys ≤ 32 → st ≡ gathered ys) → count ≡ length ys → toldBy (toldAt st) count ≡ saidBy ys
         told-by ys es ec =
-            ap (λ (x : Standings). toldBy (toldAt x) count) es
+            ap (λ (x : Standings). toldBy (toldAt x) count) (es (listed ys ec))
             ∙ ap (λ (n : ℕ). toldBy (toldAt (gathered ys)) n) ec
             ∙ told-said ys (listed ys ec)
 

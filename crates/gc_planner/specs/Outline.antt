@@ -1,5 +1,5 @@
 -- The store as the walk sees it, and what it has met said in the store's words. Assumes nothing: these are definitions.
-use Prim.Native.Nat.{ℕ}
+use Prim.Native.Nat.{ℕ, _≤_}
 use mathlib.Core.Path.{_≡_}
 use lib.ListN.{length, replicate}
 use mathlib.Core.List.{List}
@@ -87,6 +87,6 @@ metBy s (At t) b = Refused (MissingTournament (addressAt s t))
 abbrev pub planOf : Store → Met → GcPlan
 planOf s m = record { planned = metBy s (m .missing) (m .best); steps = m .steps }
 
--- the plan for any list of standings that is gathered so, `count` of them in all
+-- the plan for any list of standings that is gathered so, `count` of them in all; of more than 32 none is looked at
 abbrev pub Plans : Store → Standings → ℕ → ℕ → GcPlan → Type 0
-Plans s st count at r = (ys : List StandingRow) → st ≡ gathered ys → count ≡ length ys → r ≡ planGc s ys at
+Plans s st count at r = (ys : List StandingRow) → (length ys ≤ 32 → st ≡ gathered ys) → count ≡ length ys → r ≡ planGc s ys at

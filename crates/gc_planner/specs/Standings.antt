@@ -2,17 +2,18 @@
 -- these are definitions.
 use Prim.Native.Nat.{ℕ, zero, suc, _+_}
 use mathlib.Core.Bool.{Bool, true, false, cond}
-use mathlib.Core.List.{List}
+use mathlib.Core.List.{List, [], _∷_}
 use lib.ListN.{getD, set, length, replicate}
 use Rattle.domain.specs.declared.Address.{Address}
 use Rattle.domain.specs.declared.OptionAddress.{OptionAddress}
 use Rattle.domain.specs.declared.OptionAddress.the-variants as address
-use Rattle.domain.specs.declared.TournamentStanding.{TournamentStanding}
-use Rattle.domain.specs.declared.TournamentStanding.the-variants.{AwaitingClosure}
+use Rattle.domain.specs.declared.OptionDigest.the-variants as digest
+use Rattle.domain.specs.declared.TournamentStanding.the-variants.{MatchesActive}
 use Rattle.domain.specs.Values.{sameAddress}
 use Rattle.gc_walk.specs.declared.Seen.{Seen}
 use Rattle.gc_walk.specs.declared.Seen.the-variants.{Missing, Eliminable, Other}
 use Rattle.gc_planner.specs.declared.StandingRow.{StandingRow}
+use Rattle.gc_planner.specs.declared.StandingList.{StandingList}
 use Rattle.gc_planner.specs.declared.Told.{Told}
 use Rattle.gc_planner.specs.declared.Standings.{Standings}
 use Rattle.gc_planner.specs.Cleanup.{eliminable}
@@ -24,7 +25,7 @@ abbrev pub clearTold : Told
 clearTold = record { tournament = noAddress; eliminable = false }
 
 abbrev pub clearRow : StandingRow
-clearRow = record { tournament = noAddress; standing = AwaitingClosure }
+clearRow = record { tournament = noAddress; standing = MatchesActive false digest.None }
 
 -- ---- what is gathered
 
@@ -48,6 +49,15 @@ gather ys n = record { rows = fill (λ i. toldOf (getD ys i clearRow)) n (replic
 
 abbrev pub gathered : List StandingRow → Standings
 gathered ys = gather ys (length ys)
+
+-- the n rows of an array from i on; past its end they are clear
+unfoldable pub rowsFrom : List StandingRow → ℕ → ℕ → List StandingRow
+rowsFrom rows i zero = []
+rowsFrom rows i (suc n) = getD rows i clearRow ∷ rowsFrom rows (i + 1) n
+
+-- the standings that a list by value holds: as many as it says
+abbrev pub rowsOf : StandingList → List StandingRow
+rowsOf l = rowsFrom (l .rows) 0 (l .count)
 
 -- ---- what it says
 

@@ -24,7 +24,7 @@ ghost use mathlib.Core.Path.{_≡_};
 ghost use Prim.Native.Nat.{_≤_};
 ghost use Rattle.domain.specs.declared.refusal.Refusal.the-variants.{Core};
 ghost use Rattle.gc_planner.specs.Cleanup.{planGc, eliminable, early};
-ghost use Rattle.gc_planner.specs.Standings.{empty, put, gathered, toldAt, toldSeen, seenFrom, twiceFrom, thereOf};
+ghost use Rattle.gc_planner.specs.Standings.{empty, put, gather, gathered, rowsOf, toldAt, toldSeen, seenFrom, twiceFrom, thereOf};
 ghost use Rattle.gc_planner.specs.Outline.{blankOutline, toldBy, outlineOf, addressAt, plannedOf, planOf, Plans};
 
 // A tournament and its standing, as it was observed.
@@ -46,6 +46,12 @@ pub struct GcPlan {
     pub steps: u64,
 }
 
+// Standings by value: the first of `count` rows, in order. What stands past `count` is not looked at, and more than 32 are refused.
+pub struct StandingList {
+    pub rows: [StandingRow; 32],
+    pub count: usize,
+}
+
 // A row of the standings: whose it is, and whether it makes its tournament eliminable.
 struct Told {
     tournament: Address,
@@ -62,6 +68,32 @@ pub fn plan_gc(s: Store, standings: &[StandingRow], at: u64) -> GcPlan
     ensures { λ r. ⌜ r ≡ planGc s (now (standings .entry)) at ⌝ }
 {
     plan_standings(s, gather(standings), standings.len(), at)
+}
+
+// The same by a list by value.
+pub fn plan_listed(s: Store, list: StandingList, at: u64) -> GcPlan
+    ensures { λ r. ⌜ r ≡ planGc s (rowsOf list) at ⌝ }
+{
+    let count = list.count;
+    if count > 32 {
+        return plan_standings(s, none(), count, at);
+    }
+    plan_standings(s, kept(list, count), count, at)
+}
+
+// The first `count` rows of a list.
+fn kept(list: StandingList, count: usize) -> Standings
+    requires { ⌜ count ≤ 32 ⌝ }
+    ensures { λ r. ⌜ r ≡ gather (list .rows) count ⌝ }
+{
+    let mut acc = none();
+    let mut i: usize = 0;
+    while i < count {
+        let row = list.rows[i];
+        acc = with_row(acc, i, row);
+        i += 1;
+    }
+    acc
 }
 
 // The first 32 of the lent rows, by value.

@@ -186,11 +186,12 @@ fn ended_at(m: Met, t: usize) -> Met
     ensures { λ r. ⌜ r ≡ lacking m t ⌝ }
 {
     let best = m.best;
+    let steps = m.steps;
     Met {
         missing: Link::At(t),
         best,
         level: m.level,
-        steps: m.steps,
+        steps,
     }
 }
 

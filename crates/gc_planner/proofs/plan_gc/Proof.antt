@@ -178,7 +178,7 @@ module _ {M : Type 1} (𝓤 : URA M) (H : Heap 𝓤) (A : Atoms 𝓤) (W : Given
       (λ r v w. id⊢ 𝓤 _)
       (λ r p. plan-of 𝓤 H A at-mem run h r (length ys) k p)
       Post
-      (λ r p w e₁ e₂. exits p w (e₂ ys e₁ refl) gs fits)
+      (λ r p w e₁ e₂. exits p w (e₂ ys (λ _. e₁) refl) gs fits)
       C
       Λ
       fm
