@@ -102,6 +102,9 @@ pub fn request(name: &str, size: u64, times: u64, out: &mut impl Write) -> io::R
         "run-last" => (1, one(size, 0), vec![event(3, root, last, 0, 0); 374]),
         "run-full" => (1, one(128, 256), (0..374).map(|n| advance(false, 128, n)).collect()),
         "run-spread" => (1, spread(), (0..374).map(|n| advance(true, 128, n)).collect()),
+        // The first number is the block here.
+        "one" => (9, one(size, 0), vec![]),
+        "spread" => (size, spread(), vec![]),
         "position" => (2, one(size, 0), vec![join(root, last.0)]),
         "sound" => (3, one(size, if size == 128 { 256 } else { 0 }), vec![]),
         "sound-spread" => (3, spread(), vec![]),

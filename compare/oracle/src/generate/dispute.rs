@@ -396,7 +396,9 @@ fn full(stream: &mut Stream) {
 pub fn fixed(questions: &'static [u8]) -> Vec<Vec<u8>> {
     let mut stream = Stream::of(questions);
     rows(&mut stream);
-    records(&mut stream);
+    if questions == DISPUTE {
+        records(&mut stream);
+    }
     full(&mut stream);
     stream.out
 }
