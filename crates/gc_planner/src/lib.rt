@@ -22,7 +22,9 @@ use store::MatchStatus;
 use store::Store;
 ghost use mathlib.Core.Path.{_≡_};
 ghost use Prim.Native.Nat.{_≤_};
+ghost use Rattle.domain.specs.declared.GcIntent.the-variants.{EliminateMatch, EliminateChild};
 ghost use Rattle.domain.specs.declared.refusal.Refusal.the-variants.{Core};
+ghost use Rattle.store.specs.Rows.{usedTournament, matchAt};
 ghost use Rattle.gc_planner.specs.Cleanup.{planGc, eliminable, early};
 ghost use Rattle.gc_planner.specs.Standings.{empty, put, gather, gathered, rowsOf, toldAt, toldSeen, seenFrom, twiceFrom, thereOf};
 ghost use Rattle.gc_planner.specs.Outline.{blankOutline, toldBy, outlineOf, addressAt, plannedOf, planOf, Plans};
@@ -116,8 +118,7 @@ fn plan_standings(s: Store, st: Standings, count: usize, at: u64) -> GcPlan
     if !sound::sound(s) {
         return refused(CoreError::StoreUnsound);
     }
-    let root = s.tournaments[0];
-    if !root.used {
+    if !has_root(s) {
         return refused(CoreError::UnknownTournament {
             tournament: OptionAddress::None,
         });
@@ -164,19 +165,66 @@ fn due(s: Store, best: Item) -> Planned
 {
     match best {
         Item::Nothing => Planned::Nothing,
-        Item::Match(t, i) => {
-            let row = store::rows::match_at(s, i);
-            let match_id = row.id;
-            Planned::Due(GcIntent::EliminateMatch {
-                tournament: address_at(s, t),
-                match_id,
-            })
-        }
-        Item::Child(t, c) => Planned::Due(GcIntent::EliminateChild {
-            parent_tournament: address_at(s, t),
-            child_tournament: address_at(s, c),
-        }),
+        Item::Match(t, i) => Planned::Due(eliminate_match(s, t, i)),
+        Item::Child(t, c) => Planned::Due(eliminate_child(s, t, c)),
     }
+}
+
+// The elimination of the match in row i of the tournament in row t. Both rows are read here, so that the store is copied once.
+fn eliminate_match(s: Store, t: usize, i: usize) -> GcIntent
+    ensures { λ r. ⌜ r ≡ EliminateMatch (addressAt s t) (matchAt s i .id) ⌝ }
+{
+    if t < 32 {
+        if i < 128 {
+            let here = s.tournaments[t];
+            let descriptor = here.descriptor;
+            let tournament = descriptor.address;
+            let row = s.matches[i];
+            let match_id = row.id;
+            return GcIntent::EliminateMatch {
+                tournament,
+                match_id,
+            };
+        }
+    }
+    let row = store::rows::match_at(s, i);
+    let match_id = row.id;
+    GcIntent::EliminateMatch {
+        tournament: address_at(s, t),
+        match_id,
+    }
+}
+
+// The elimination of the tournament in row c, a child of the one in row t.
+fn eliminate_child(s: Store, t: usize, c: usize) -> GcIntent
+    ensures { λ r. ⌜ r ≡ EliminateChild (addressAt s t) (addressAt s c) ⌝ }
+{
+    if t < 32 {
+        if c < 32 {
+            let here = s.tournaments[t];
+            let descriptor = here.descriptor;
+            let parent_tournament = descriptor.address;
+            let child = s.tournaments[c];
+            let beneath = child.descriptor;
+            let child_tournament = beneath.address;
+            return GcIntent::EliminateChild {
+                parent_tournament,
+                child_tournament,
+            };
+        }
+    }
+    GcIntent::EliminateChild {
+        parent_tournament: address_at(s, t),
+        child_tournament: address_at(s, c),
+    }
+}
+
+// Whether the store has a root: it is empty where it has none.
+fn has_root(s: Store) -> bool
+    ensures { λ r. ⌜ r ≡ usedTournament s 0 ⌝ }
+{
+    let root = s.tournaments[0];
+    root.used
 }
 
 // The address of the tournament in that row.
