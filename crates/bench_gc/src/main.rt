@@ -62,7 +62,7 @@ fn standings(r: StandingRequests) -> StandingList {
         high: 0,
         mid: 0,
         low: 0,
-    }); 64];
+    }); 32];
     let mut i: usize = 0;
     while i < 32 {
         let request = r.requests[i];
@@ -81,7 +81,7 @@ fn repeat(s: Store, list: StandingList, at: u64, times: u64) -> u64 {
     let mut left = times;
     while left > 0 {
         left -= 1;
-        let plan = gc_planner::plan_gc_list(s, list, at);
+        let plan = gc_planner::plan_listed(s, list, at);
         sum = std::num::wrapping_add_u64(sum, plan.steps);
     }
     sum

@@ -97,16 +97,18 @@ fn none() -> StandingList {
         },
         standing: TournamentStanding::AwaitingClosure,
     };
-    let rows = [row; 64];
+    let rows = [row; 32];
     StandingList { rows, count: 0 }
 }
 
-// One more standing, where there is room for it.
+// One more standing. Past the 32nd it is counted and not kept.
 fn added(list: StandingList, row: StandingRow) -> StandingList {
     let at = list.count;
     let mut rows = list.rows;
-    if at < 64 {
+    if at < 32 {
         rows[at] = row;
+    }
+    if at < 1000000 {
         return StandingList {
             rows,
             count: at + 1,
@@ -187,7 +189,7 @@ fn answered(s: Store, standings: StandingList, request: &[u8]) -> Running {
         print_requests(standing_requests::standing_requests(s))
     } else {
         let at = requests::number_at(request, BLOCK);
-        answers::print(plan_line(gc_planner::plan_gc_list(s, standings, at)))
+        answers::print(plan_line(gc_planner::plan_listed(s, standings, at)))
     };
     Running {
         store: s,

@@ -6,7 +6,7 @@ use Rattle.bench_gc.proofs.standings.Statement.{statement}
 use Rattle.bench_gc.proofs.standings.Tie as tie
 
 abbrev Inv-loop : tie.InvT-loop
-Inv-loop r rows₀ i₀ rows i = (i ≤ 32) × (length rows ≡ 64)
+Inv-loop r rows₀ i₀ rows i = (i ≤ 32) × (length rows ≡ 32)
 
 abbrev μ-loop : tie.MeasureT-loop
 μ-loop r rows₀ i₀ rows i = 32 - i
