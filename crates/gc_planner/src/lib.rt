@@ -48,7 +48,7 @@ pub struct GcPlan {
     pub steps: u64,
 }
 
-// Standings by value: the first of `count` rows, in order. What stands past `count` is not looked at, and more than 32 are refused.
+// Standings by value: the first `count` of the rows, in order. What stands past them is not looked at, and more than 32 are refused.
 pub struct StandingList {
     pub rows: [StandingRow; 32],
     pub count: usize,
