@@ -261,7 +261,7 @@ fn emit(s: Store, a: Address, kind: EventKind) -> Change
 {
     match check_kind(kind) {
         Checked::Refused(e) => Change::Kept(Refusal::Domain(e)),
-        Checked::Accepted => match store::find_tournament(s, a) {
+        Checked::Accepted => match routing::find_tournament(s, a) {
             Route::Lost => Change::Kept(Refusal::Core(CoreError::UnknownTournament {
                 tournament: OptionAddress::Some(a),
             })),

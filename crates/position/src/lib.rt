@@ -200,7 +200,7 @@ fn reach(s: Store, tournament: Address) -> Reached
     if !sound::sound(s) {
         return Reached::Refused(Refusal::Core(CoreError::StoreUnsound));
     }
-    match store::find_tournament(s, tournament) {
+    match routing::find_tournament(s, tournament) {
         Route::Lost => Reached::Refused(Refusal::Core(CoreError::UnknownTournament {
             tournament: OptionAddress::Some(tournament),
         })),

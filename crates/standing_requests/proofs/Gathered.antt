@@ -1,55 +1,18 @@
--- Laws of the two loops: one step of the walk, and one row filled. Assumes nothing.
+-- Laws of the loop: one row filled. Assumes nothing.
 use Prim.Native.Nat.{ℕ, zero, suc, _+_, _-_, _≤_, _<_}
 use native.Mathlib.Omega.{arith}
-use borrow.Author.Tests.{ltb-true, ltb-false}
 use mathlib.Core.Path.{_≡_, refl, ap, _∙_, sym}
-use mathlib.Core.Bool.{Bool, true, false, not}
 use mathlib.Core.List.{List, [], _∷_, _++_, map, append-nil}
-use lib.Dec.{ltb}
 use lib.ListN.{getD, set, length, drop, replicate, length-replicate, length-map}
 use lib.Seq.{set-at, drop-cons, set-getD, getD-at, drop-length}
 use Rattle.store.specs.declared.Store.{Store}
 use Rattle.store.specs.declared.MatchRow.{MatchRow}
 use Rattle.store.specs.declared.TournamentRow.{TournamentRow}
-use Rattle.store.specs.declared.MatchStatus.{MatchStatus}
-use Rattle.store.specs.declared.Link.{Link}
-use Rattle.store.specs.declared.Link.the-variants.{At}
 use Rattle.store.specs.Rows.{tournamentAt, matchAt, clearMatch}
 use Rattle.store.specs.Laws.{far-tournament, far-match}
-use Rattle.store.specs.Find.{childRow, placesFrom}
-use Rattle.store.specs.Free.{childBeneath}
-use Rattle.store.specs.Routing.{Keeps, frames, child-depth, walk-none, walk-free, walk-child}
 use Rattle.sound.specs.Tests.{rowOr}
-use Rattle.standing_requests.specs.declared.Order.{Order}
 use Rattle.standing_requests.specs.declared.StandingRequest.{StandingRequest}
 use Rattle.standing_requests.specs.Requests.{requestOf, requestAt, clearRequest}
-use Rattle.standing_requests.specs.Order.{noPlaces, withPlace, withPlaces, orderOf}
-
--- past a match whose child is not looked at, and into one that is
-module _ (s : Store) (o : Order) (d : ℕ) (l : Link) (xs : List Link) (x : Order) (n i c : ℕ) (q : Keeps (withPlaces o) s n d l xs x) (h : 0 < n)
-    (e : l ≡ At i) (r : c ≡ childBeneath d (matchAt s i .status)) where
-  pub past-none : length (s .tournaments) ≡ 32 → 32 ≤ c → Keeps (withPlaces o) s (n - 1) d (matchAt s i .next) xs x
-  past-none m g = walk-none (withPlaces o) s d l xs x n i c q h e r m g
-
-  pub past-free : c < 32 → tournamentAt s c .used ≡ false → Keeps (withPlaces o) s (n - 1) d (matchAt s i .next) xs x
-  past-free g u = walk-free (withPlaces o) s d l xs x n i c q h e r g u
-
-  pub deeper : c < 32 → d + 1 ≤ 7
-  deeper g = let k : d < 7 = child-depth d (matchAt s i .status) c r g in omega arith
-
-  pub into-child : c < 32 → tournamentAt s c .used ≡ true → length xs ≡ 8 → (p : Order) → p ≡ withPlace o c
-      → Keeps (withPlaces p) s (n - 1) (d + 1) (tournamentAt s c .matches) (set xs d (matchAt s i .next)) x
-  unfolding withPlaces
-  into-child g u y p z =
-      record {
-        is = ap (λ w. withPlaces w (placesFrom (n - 1) s (tournamentAt s c .matches) (frames (d + 1) (set xs d (matchAt s i .next))))) z
-            ∙ walk-child (withPlaces o) s d l xs x n i c q h e r g u y;
-      }
-
--- before the first step
-pub starts : (s : Store) (xs : List Link) (o p : Order) → o ≡ withPlace p 0 → p ≡ noPlaces → Keeps (withPlaces o) s 160 0 (tournamentAt s 0 .matches) xs (orderOf s)
-unfolding withPlaces orderOf frames
-starts s xs o p e f = record { is = ap (λ w. withPlaces w (placesFrom 160 s (tournamentAt s 0 .matches) [])) (e ∙ ap (λ w. withPlace w 0) f) }
 
 -- The rows from k on filled with what m has there, those before still clear.
 module _ {A : Type 0} (a : A) (m : List A) where

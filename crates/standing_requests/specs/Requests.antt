@@ -1,9 +1,9 @@
 -- "Standing requests: 61, 62 (empty), then one per tournament in routing order, with its descriptor and its parent match, if any"
 -- (document 01, "Decoders"). Assumes nothing: these are definitions.
-use Prim.Native.Nat.{ℕ, _-_, min}
+use Prim.Native.Nat.{ℕ, min}
 use mathlib.Core.Bool.{cond}
-use mathlib.Core.List.{List, _++_, map}
-use lib.ListN.{length, take, replicate}
+use mathlib.Core.List.{List, map}
+use lib.ListN.{length, replicate}
 use Rattle.domain.specs.declared.OptionAddress.the-variants as address
 use Rattle.domain.specs.declared.OptionMatchID.{OptionMatchID}
 use Rattle.domain.specs.declared.OptionMatchID.the-variants as parent
@@ -17,6 +17,8 @@ use Rattle.store.specs.declared.Link.{Link}
 use Rattle.store.specs.declared.Link.the-variants.{End, At}
 use Rattle.store.specs.Rows.{tournamentAt, matchAt, usedTournament, clearTournament, clearMatch}
 use Rattle.store.specs.Find.{places}
+use Rattle.routing.specs.declared.Order.{Order}
+use Rattle.routing.specs.Order.{inRows}
 use Rattle.sound.specs.Sound.{soundRows}
 use Rattle.sound.specs.Tests.{rowOr}
 use Rattle.standing_requests.specs.declared.StandingRequest.{StandingRequest}
@@ -40,10 +42,6 @@ requestAt s t = requestOf (tournamentAt s t) (matchAt s (rowOr 128 (tournamentAt
 unfoldable pub requests : Store → List StandingRequest
 requests s = map (λ p. requestAt s (p .row)) (places s)
 
--- a list in n rows: the first n of it, and that value in each row after its last
-abbrev pub inRows : {A : Type 0} → A → ℕ → List A → List A
-inRows a n xs = take n xs ++ replicate (n - length xs) a
-
 -- a row that holds no request
 abbrev pub clearRequest : StandingRequest
 clearRequest = requestOf clearTournament clearMatch
@@ -56,9 +54,14 @@ handed rs = record { answer = collected.All; count = min (length rs) 32; request
 abbrev pub refusedFor : CoreError → StandingRequests
 refusedFor e = record { answer = collected.Refused (Core e); count = 0; requests = replicate 32 clearRequest }
 
--- the answer over any store
+-- the answer over any store: the Rust's `collect_standing_requests`
 unfoldable pub requestsOf : Store → StandingRequests
 requestsOf s =
     cond (soundRows s)
     (cond (usedTournament s 0) (handed (requests s)) (refusedFor (UnknownTournament address.None)))
     (refusedFor StoreUnsound)
+
+-- What only the code inside this crate hands on: the requests for the tournaments in the rows of an order; a row past the last is clear,
+-- and so is its request.
+unfoldable pub requestsIn : Store → Order → StandingRequests
+requestsIn s o = record { answer = collected.All; count = o .count; requests = map (requestAt s) (o .rows) }

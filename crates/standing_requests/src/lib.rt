@@ -1,20 +1,20 @@
 // The standings that a reader of the chain has to ask for: one request for each tournament of a store, in routing order.
 //
-// A walk over the store notes the tournaments' rows in that order, and then each row is made into its request: each of the two loops
-// stays in a function that holds the store.
+// The tournaments' rows are noted in that order first (`routing_order`), and then each row is made into its request: each of the two
+// loops stays in a function that holds the store.
 use domain::OptionAddress;
 use domain::OptionMatchID;
 use domain::TournamentDescriptor;
 use domain::refusal::CoreError;
 use domain::refusal::Refusal;
+use routing::Order;
 use store::Link;
 use store::MatchRow;
 use store::Store;
 use store::TournamentRow;
 use store::rows;
 ghost use mathlib.Core.Path.{_≡_};
-ghost use Rattle.standing_requests.specs.Requests.{requestOf, refusedFor, requestsOf};
-ghost use Rattle.standing_requests.specs.Order.{noPlaces, withPlace, orderOf, requestsIn};
+ghost use Rattle.standing_requests.specs.Requests.{requestOf, refusedFor, requestsOf, requestsIn};
 
 // One standing to be read: the tournament's descriptor, and the match that it hangs from, if any.
 pub struct StandingRequest {
@@ -35,12 +35,6 @@ pub struct StandingRequests {
     pub requests: [StandingRequest; 32],
 }
 
-// The rows of the tournaments in routing order: the first `count` of `rows`, and 32 after them.
-struct Order {
-    count: usize,
-    rows: [usize; 32],
-}
-
 // One request for each tournament of the store, in routing order: 61 where the store is not sound, 62 where it is empty.
 pub fn standing_requests(s: Store) -> StandingRequests
     ensures { λ r. ⌜ r ≡ requestsOf s ⌝ }
@@ -53,75 +47,7 @@ pub fn standing_requests(s: Store) -> StandingRequests
         let tournament = OptionAddress::None;
         return refused(CoreError::UnknownTournament { tournament });
     }
-    collect_standing_requests(s, routing_order(s))
-}
-
-// The tournaments' rows: the root first, then depth first in match order. The matches still to come in the tournaments above wait in
-// `above`, the innermost last.
-fn routing_order(s: Store) -> Order
-    ensures { λ r. ⌜ r ≡ orderOf s ⌝ }
-{
-    let root = s.tournaments[0];
-    let mut order = with_place(no_places(), 0);
-    let end = Link::End;
-    let mut above = [end; 8];
-    let mut depth: usize = 0;
-    let mut l = root.matches;
-    let mut left: usize = 160;
-    while left > 0 {
-        left -= 1;
-        let Link::At(i) = l else {
-            if depth == 0 {
-                return order;
-            }
-            depth -= 1;
-            l = above[depth];
-            continue;
-        };
-        if i >= 128 {
-            l = Link::End;
-            continue;
-        }
-        let row = s.matches[i];
-        let c = store::child_beneath(row, depth);
-        l = row.next;
-        if c < 32 {
-            let child = s.tournaments[c];
-            if child.used {
-                order = with_place(order, c);
-                above[depth] = l;
-                depth += 1;
-                l = child.matches;
-            }
-        }
-    }
-    order
-}
-
-// Before the first tournament.
-fn no_places() -> Order
-    ensures { λ r. ⌜ r ≡ noPlaces ⌝ }
-{
-    Order {
-        count: 0,
-        rows: [32; 32],
-    }
-}
-
-// One tournament more, if there is room for it.
-fn with_place(order: Order, row: usize) -> Order
-    ensures { λ r. ⌜ r ≡ withPlace order row ⌝ }
-{
-    let count = order.count;
-    if count >= 32 {
-        return order;
-    }
-    let mut rows = order.rows;
-    rows[count] = row;
-    Order {
-        count: count + 1,
-        rows,
-    }
+    collect_standing_requests(s, routing::routing_order(s))
 }
 
 // The requests for the tournaments in those rows.

@@ -12,14 +12,13 @@ use domain::OptionDigest;
 use domain::TournamentDescriptor;
 use domain::dispute::WinnerCommitment;
 ghost use mathlib.Core.Path.{_≡_};
-ghost use mathlib.Core.List.{[]};
 ghost use Prim.Native.Nat.{_<_};
 ghost use lib.Dec.{eqb};
 ghost use Rattle.domain.specs.Values.{sameAddress};
 ghost use Rattle.store.specs.Rows.{clearStore, freeStatus, clockedStatus, sameLink};
 ghost use Rattle.store.specs.Scan.{lowestTournament, lowestMatch, lowestCommitment, tournamentsUsed, matchesUsed, commitmentsUsed};
 ghost use Rattle.store.specs.Chain.{hasRoot, hasId, commitmentByRoot, matchById};
-ghost use Rattle.store.specs.Find.{childRow, placesFrom, firstWith, routeRows};
+ghost use Rattle.store.specs.Find.{childRow};
 ghost use Rattle.store.specs.Free.{freeC, freeT, enteredAt, pastRow, childBeneath, nextRow};
 
 // A row's number, or the end of a chain.
@@ -361,63 +360,6 @@ pub fn match_by_id_hash(s: Store, t: usize, match_id_hash: Digest) -> Link
         k -= 1;
     }
     Link::End
-}
-
-// Where an address leads: the root first, then depth first in match order.
-pub fn find_tournament(s: Store, address: Address) -> Route
-    ensures { λ r. ⌜ r ≡ routeRows s address ⌝ }
-{
-    let root = s.tournaments[0];
-    if !root.used {
-        return Route::Lost;
-    }
-    if root.has_address(address) {
-        return Route::Found(0, 0);
-    }
-    let head = root.matches;
-    find_beneath(s, address, head)
-}
-
-// The same beneath the root, from the match at a link on. The matches still to come in the tournaments above wait in `above`, the
-// innermost last.
-fn find_beneath(s: Store, address: Address, mut l: Link) -> Route
-    ensures { λ r. ⌜ r ≡ firstWith s address (placesFrom 160 s l []) ⌝ }
-{
-    let mut above = [l; 8];
-    let mut depth: usize = 0;
-    let mut left: usize = 160;
-    while left > 0 {
-        left -= 1;
-        let Link::At(i) = l else {
-            if depth == 0 {
-                return Route::Lost;
-            }
-            depth -= 1;
-            l = above[depth];
-            continue;
-        };
-        if i >= 128 {
-            l = Link::End;
-            continue;
-        }
-        let row = s.matches[i];
-        let c = child_beneath(row, depth);
-        l = row.next;
-        if c >= 32 {
-            continue;
-        }
-        let child = s.tournaments[c];
-        if !child.used {
-            continue;
-        }
-        if child.has_address(address) {
-            return Route::Found(c, depth + 1);
-        }
-        above[depth] = l;
-        depth += 1;
-        l = child.matches;
-    }
-    Route::Lost
 }
 
 // The store with the tournament in row t and all beneath it cleared: its commitments, its matches and their children. The tournaments

@@ -8,8 +8,7 @@ use mathlib.Core.List.{List, map}
 use lib.ListN.{length, length-map, replicate}
 use Rattle.standing_requests.specs.declared.StandingRequest.{StandingRequest}
 use Rattle.standing_requests.specs.declared.Collected.the-variants as collected
-use Rattle.standing_requests.specs.Requests.{requestOf, requestAt, clearRequest}
-use Rattle.standing_requests.specs.Order.{requestsIn}
+use Rattle.standing_requests.specs.Requests.{requestOf, requestAt, clearRequest, requestsIn}
 use Rattle.standing_requests.proofs.Gathered.{filled, fill-start, ask-match, ask-far, ask-none}
 use Rattle.standing_requests.proofs.collect_standing_requests.Statement.{statement}
 use Rattle.standing_requests.proofs.collect_standing_requests.Tie as tie

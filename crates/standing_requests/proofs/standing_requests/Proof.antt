@@ -4,7 +4,7 @@ use borrow.Author.Tests.{not-true, not-false}
 use mathlib.Core.Path.{ap, sym, _∙_}
 use lib.ListN.{length-map}
 use Rattle.store.specs.declared.TournamentRow.{TournamentRow}
-use Rattle.standing_requests.specs.Order.{requestsIn}
+use Rattle.standing_requests.specs.Requests.{requestsIn}
 use Rattle.standing_requests.proofs.Handed.{ask-unsound, ask-empty, ask-all}
 use Rattle.standing_requests.proofs.standing_requests.Statement.{statement}
 use Rattle.standing_requests.proofs.standing_requests.Tie as tie

@@ -10,14 +10,14 @@ use mathlib.Core.List.{List, [], _∷_}
 use lib.ListN.{length, length-map, length-set}
 use Rattle.domain.specs.declared.Address.{Address}
 use Rattle.domain.specs.Values.{sameAddress}
 use Rattle.store.specs.declared.Store.{Store}
 use Rattle.store.specs.declared.Route.{Route}
 use Rattle.store.specs.declared.Route.the-variants.{Found}
 use Rattle.store.specs.Rows.{tournamentAt, matchAt}
 use Rattle.store.specs.Find.{Place, placesFrom, firstWith}
 use Rattle.store.specs.Routing.{frames, Keeps, child-depth, walk-out, walk-end, walk-pop, walk-far, walk-none, walk-free, walk-child}
-use Rattle.store.proofs.find_beneath.Statement.{statement}
-use Rattle.store.proofs.find_beneath.Tie as tie
+use Rattle.routing.proofs.find_beneath.Statement.{statement}
+use Rattle.routing.proofs.find_beneath.Tie as tie
 
 abbrev Inv-loop : tie.InvT-loop
 Inv-loop a l₀ s above₀ d₀ n₀ l above d n =

@@ -2,10 +2,10 @@
 use borrow.Author.Needs.{needs}
 use borrow.Author.Tests.{not-true, not-false}
 use mathlib.Core.Path.{_≡_, _∙_, sym}
 use Rattle.store.specs.Rows.{tournamentAt}
 use Rattle.store.specs.Find.{places, firstWith, routeRows}
-use Rattle.store.proofs.find_tournament.Statement.{statement}
-use Rattle.store.proofs.find_tournament.Tie as tie
+use Rattle.routing.proofs.find_tournament.Statement.{statement}
+use Rattle.routing.proofs.find_tournament.Tie as tie
 
 returns : tie.Need-returns
 unfolding routeRows places firstWith
