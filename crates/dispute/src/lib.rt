@@ -671,7 +671,7 @@ fn resolve_rows(s: Store, i: usize, reason: MatchDeletionReason, winner: WinnerC
         MatchStatus::Free => status_rows(s, i, resolved),
         MatchStatus::Clocked { eliminable_at: _ } => status_rows(s, i, resolved),
         MatchStatus::Leaf { eliminable_at: _ } => status_rows(s, i, resolved),
-        MatchStatus::Inner { child } => status_rows(store::free_tree(s, child), i, resolved),
+        MatchStatus::Inner { child } => status_rows(freeing::free_tree(s, child), i, resolved),
         MatchStatus::Resolved {
             reason: _,
             winner: _,

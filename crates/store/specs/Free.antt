@@ -1,12 +1,9 @@
 -- "Deleting a delegated match frees its child and all beneath; freed rows are cleared" (document 01, "Room"). The walk beneath is handed
 -- in as a function, so that only the nesting left falls. Assumes nothing: these are definitions.
-use Prim.Native.Nat.{ℕ, zero, suc, _-_}
+use Prim.Native.Nat.{ℕ, zero, suc}
 use mathlib.Core.Bool.{cond}
 use lib.Dec.{ltb}
 use Rattle.store.specs.declared.Store.{Store}
-use Rattle.store.specs.declared.TournamentRow.{TournamentRow}
-use Rattle.store.specs.declared.MatchRow.{MatchRow}
-use Rattle.store.specs.declared.Cursor.{Cursor}
 use Rattle.store.specs.declared.Link.{Link}
 use Rattle.store.specs.declared.Link.the-variants.{End, At}
 use Rattle.store.specs.declared.MatchStatus.{MatchStatus}
@@ -41,19 +38,6 @@ freeT zero s t = s
 freeT (suc n) s t =
     setTournament (freeM (freeT n) 128 (freeC 256 s (tournamentAt s t .commitments)) (tournamentAt s t .matches)) t clearTournament
 
--- Freeing without recursion: where it stands in a tournament, at its first match and after one; the row of the next match, and that of
--- the child of a match in a tournament at depth d, past the rows where there is none.
-
-abbrev pub enteredAt : TournamentRow → ℕ → Cursor
-enteredAt r t = record { tournament = t; «match_» = 0; left = 128; next = r .matches }
-
-abbrev pub pastRow : Cursor → ℕ → MatchRow → Cursor
-pastRow a i r = record { tournament = a .tournament; «match_» = i; left = a .left - 1; next = r .next }
-
-abbrev pub nextRow : ℕ → Link → ℕ
-nextRow zero l = 128
-nextRow (suc k) End = 128
-nextRow (suc k) (At i) = i
-
+-- the row of the child of a match in a tournament at depth d, past the rows where there is none or it would be a ninth level
 abbrev pub childBeneath : ℕ → MatchStatus → ℕ
 childBeneath d v = cond (ltb d 7) (childRow v) 32

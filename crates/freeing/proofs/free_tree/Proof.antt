@@ -5,12 +5,12 @@ use Prim.Native.Nat.{_≤_, _<_}
 use native.Mathlib.Omega.{arith}
 use mathlib.Core.Path.{_≡_, refl, ap, _∙_, sym}
 use lib.ListN.{length, length-map, length-set}
-use Rattle.store.specs.declared.Cursor.{Cursor}
+use Rattle.freeing.specs.declared.Cursor.{Cursor}
 use Rattle.store.specs.Rows.{tournamentAt, matchAt}
-use Rattle.store.proofs.Freeing.{freeT-far, freeing, Within, within-none, within-into, within-up, steps, steps-up, steps-past, steps-into, next-left, freed-start, freed-done, freed-all, freed-up, freed-past, freed-into}
+use Rattle.freeing.proofs.Freeing.{freeT-far, freeing, Within, within-none, within-into, within-up, steps, steps-up, steps-past, steps-into, next-left, freed-start, freed-done, freed-all, freed-up, freed-past, freed-into}
 use Rattle.store.specs.Routing.{child-depth}
-use Rattle.store.proofs.free_tree.Statement.{statement}
-use Rattle.store.proofs.free_tree.Tie as tie
+use Rattle.freeing.proofs.free_tree.Statement.{statement}
+use Rattle.freeing.proofs.free_tree.Tie as tie
 
 abbrev Inv-loop : tie.InvT-loop
 Inv-loop t at₀ out₀ above₀ depth₀ at out above depth =

@@ -1,8 +1,8 @@
 -- `next_row` answers the row of the next match. Assumes nothing.
 use borrow.Author.Needs.{needs}
-use Rattle.store.proofs.Freeing.{next-end, next-is}
-use Rattle.store.proofs.next_row.Statement.{statement}
-use Rattle.store.proofs.next_row.Tie as tie
+use Rattle.freeing.proofs.Freeing.{next-end, next-is}
+use Rattle.freeing.proofs.next_row.Statement.{statement}
+use Rattle.freeing.proofs.next_row.Tie as tie
 
 returns-2 : tie.Need-returns-2
 returns-2 c = next-end (c .before .before .before .before .args .at .left) _ (c .enum-told .given .1)

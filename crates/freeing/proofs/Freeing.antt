@@ -10,19 +10,20 @@ use mathlib.Core.List.{List}
 use lib.Dec.{ltb}
 use lib.ListN.{getD, set, length, List·getD-eq-default}
 use lib.Seq.{set-out, getD-set-same, getD-set-other}
 use Rattle.store.specs.declared.Store.{Store}
 use Rattle.store.specs.declared.TournamentRow.{TournamentRow}
 use Rattle.store.specs.declared.MatchRow.{MatchRow}
 use Rattle.store.specs.declared.CommitmentRow.{CommitmentRow}
-use Rattle.store.specs.declared.Cursor.{Cursor}
+use Rattle.freeing.specs.declared.Cursor.{Cursor}
 use Rattle.store.specs.declared.MatchStatus.{MatchStatus}
 use Rattle.store.specs.declared.MatchStatus.the-variants.{Free, Clocked, Leaf, Inner, Resolved}
 use Rattle.store.specs.declared.Link.{Link}
 use Rattle.store.specs.declared.Link.the-variants.{End, At}
 use Rattle.store.specs.Rows.{clearTournament, clearMatch, clearCommitment, tournamentAt, matchAt, commitmentAt, setTournament, setMatch, setCommitment}
 use Rattle.store.specs.Find.{childRow}
 use Rattle.store.specs.Routing.{child-depth, child-is}
-use Rattle.store.specs.Free.{freeC, freeS, freeM, freeT, enteredAt, pastRow, nextRow, childBeneath}
+use Rattle.store.specs.Free.{freeC, freeS, freeM, freeT, childBeneath}
+use Rattle.freeing.specs.Steps.{enteredAt, pastRow, nextRow}
 
 -- the commitments of a chain
 pub freeC-out : (k : ℕ) (s : Store) (l : Link) → k ≡ 0 → freeC k s l ≡ s

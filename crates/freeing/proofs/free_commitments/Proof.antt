@@ -4,11 +4,11 @@ use Prim.Native.Nat.{_-_}
 use native.Mathlib.Omega.{arith}
 use mathlib.Core.Path.{_≡_, refl, ap, _∙_, sym}
 use lib.ListN.{length, length-map, length-set}
 use Rattle.store.specs.Rows.{setCommitment, commitmentAt}
 use Rattle.store.specs.Free.{freeC}
-use Rattle.store.proofs.Freeing.{freeC-out, freeC-end, freeC-step, freeC-far}
-use Rattle.store.proofs.free_commitments.Statement.{statement}
-use Rattle.store.proofs.free_commitments.Tie as tie
+use Rattle.freeing.proofs.Freeing.{freeC-out, freeC-end, freeC-step, freeC-far}
+use Rattle.freeing.proofs.free_commitments.Statement.{statement}
+use Rattle.freeing.proofs.free_commitments.Tie as tie
 
 abbrev Inv-loop : tie.InvT-loop
 Inv-loop out₀ l₀ k₀ out l k = (length (out .commitments) ≡ 256) × (freeC k out l ≡ freeC 256 out₀ l₀)
