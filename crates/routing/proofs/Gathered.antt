@@ -1,4 +1,4 @@
--- Laws of the loop that gathers the order: one step of the walk, and that what is gathered is the order. Assumes nothing.
+-- Laws of the walk: one step of it, that to a wanted address it leads as routing does, and that it gathers the order. Assumes nothing.
 use Prim.Native.Nat.{ℕ, zero, suc, _+_, _-_, _≤_, _<_, min}
 use native.Mathlib.Omega.{arith}
 use borrow.Author.Tests.{ltb-true, ltb-false}
@@ -6,38 +6,42 @@ use mathlib.Core.Path.{_≡_, refl, ap, _∙_, sym}
 use mathlib.Core.Bool.{Bool, true, false, cond}
 use mathlib.Core.List.{List, [], _∷_, _++_, map, append-assoc, append-nil}
 use lib.Dec.{ltb}
-use lib.ListN.{set, length, take, replicate, length-append, length-map}
+use lib.ListN.{set, length, replicate, length-append, length-map}
 use lib.Seq.{set-append-seam, take-all, take-append-le}
 use Rattle.domain.specs.declared.Address.{Address}
+use Rattle.domain.specs.declared.OptionAddress.{OptionAddress}
+use Rattle.domain.specs.declared.OptionAddress.the-variants.{None, Some}
+use Rattle.domain.specs.Values.{sameAddress}
 use Rattle.store.specs.declared.Store.{Store}
-use Rattle.store.specs.declared.Link.{Link}
-use Rattle.store.specs.declared.Link.the-variants.{At}
-use Rattle.store.specs.Rows.{tournamentAt, matchAt}
-use Rattle.store.specs.Find.{Place, placesFrom, places}
-use Rattle.store.specs.Free.{childBeneath}
-use Rattle.store.specs.Routing.{Keeps, frames, child-depth, walk-child}
+use Rattle.store.specs.declared.Route.the-variants.{Found}
+use Rattle.store.specs.Rows.{tournamentAt}
+use Rattle.store.specs.Find.{Place, placesFrom, places, firstWith}
 use Rattle.routing.specs.declared.Order.{Order}
-use Rattle.routing.specs.Order.{inRows, placeAddress, listed, orderOf, noPlaces, withPlace}
+use Rattle.routing.specs.declared.Walked.{Walked}
+use Rattle.routing.specs.Order.{inRows, placeAddress, listed, orderOf}
+use Rattle.routing.specs.Walk.{noPlaces, withPlace, isWanted, endedWith, onward}
 
--- the order gathered from these places on
-unfoldable pub withPlaces : Store → Order → List Place → Order
-withPlaces s o [] = o
-withPlaces s o (p ∷ ps) = withPlaces s (withPlace o (p .row) (placeAddress s p)) ps
+-- the first of the places that are still to be met, and those after it
+module _ (s : Store) (w : OptionAddress) (o : Order) (p : Place) (ps : List Place) (x : Walked) (q : onward s w o (p ∷ ps) ≡ x) where
+  pub wanted-here : isWanted w (placeAddress s p) ≡ true → endedWith o (Found (p .row) (p .depth)) ≡ x
+  unfolding onward
+  wanted-here t = rw t at q
 
--- into a child
-module _ (s : Store) (o : Order) (d : ℕ) (l : Link) (xs : List Link) (x : Order) (n i c : ℕ) (q : Keeps (withPlaces s o) s n d l xs x) (h : 0 < n)
-    (e : l ≡ At i) (r : c ≡ childBeneath d (matchAt s i .status)) where
-  pub deeper : c < 32 → d + 1 ≤ 7
-  deeper g = let k : d < 7 = child-depth d (matchAt s i .status) c r g in omega arith
+  pub wanted-on : isWanted w (placeAddress s p) ≡ false → (o′ : Order) → o′ ≡ withPlace o (p .row) (placeAddress s p) → onward s w o′ ps ≡ x
+  unfolding onward
+  wanted-on t o′ e = ap (λ v. onward s w v ps) e ∙ (rw t at q)
 
-  pub into-child : c < 32 → tournamentAt s c .used ≡ true → length xs ≡ 8 → (p : Order) → p ≡ withPlace o c (tournamentAt s c .descriptor .address)
-      → Keeps (withPlaces s p) s (n - 1) (d + 1) (tournamentAt s c .matches) (set xs d (matchAt s i .next)) x
-  unfolding withPlaces
-  into-child g u y p z =
-      record {
-        is = ap (λ w. withPlaces s w (placesFrom (n - 1) s (tournamentAt s c .matches) (frames (d + 1) (set xs d (matchAt s i .next))))) z
-            ∙ walk-child (withPlaces s o) s d l xs x n i c q h e r g u y;
-      }
+-- to a wanted address the walk leads as routing does
+pub onward-first : (s : Store) (a : Address) (o : Order) (ps : List Place) → onward s (Some a) o ps .route ≡ firstWith s a ps
+unfolding onward firstWith
+onward-first s a o [] = refl
+onward-first s a o (p ∷ ps) = go (sameAddress (placeAddress s p) a) (onward-first s a (withPlace o (p .row) (placeAddress s p)) ps)
+  where
+    go : (b : Bool) → onward s (Some a) (withPlace o (p .row) (placeAddress s p)) ps .route ≡ firstWith s a ps
+        → cond b (endedWith o (Found (p .row) (p .depth))) (onward s (Some a) (withPlace o (p .row) (placeAddress s p)) ps) .route
+        ≡ cond b (Found (p .row) (p .depth)) (firstWith s a ps)
+    go true e = refl
+    go false e = e
 
 -- a list in n rows, and one more at its end
 module _ {A : Type 0} (a : A) (n : ℕ) (xs : List A) (y : A) where
@@ -104,25 +108,24 @@ with-one s ps p = go (ltb (min (length ps) 32) 32) refl
         let r₃ = read-full (λ (p : Place). placeAddress s p .low) 0 32 ps p f in
         λ i. record { count = q i; rows = r₀ i; high = r₁ i; mid = r₂ i; low = r₃ i }
 
-with-all : (s : Store) (ps qs : List Place) → withPlaces s (listed s qs) ps ≡ listed s (qs ++ ps)
-unfolding withPlaces
-with-all s [] qs = ap (listed s) (sym (append-nil qs))
-with-all s (p ∷ ps) qs =
-    ap (λ o. withPlaces s o ps) (with-one s qs p) ∙ with-all s ps (qs ++ (p ∷ [])) ∙ ap (listed s) (append-assoc qs (p ∷ []) ps)
+-- where none is wanted the walk gathers all places
+onward-all : (s : Store) (ps qs : List Place) → onward s None (listed s qs) ps .order ≡ listed s (qs ++ ps)
+unfolding onward
+onward-all s [] qs = ap (listed s) (sym (append-nil qs))
+onward-all s (p ∷ ps) qs =
+    ap (λ o. onward s None o ps .order) (with-one s qs p) ∙ onward-all s ps (qs ++ (p ∷ [])) ∙ ap (listed s) (append-assoc qs (p ∷ []) ps)
 
--- an empty store's, and before the first step in another
+-- the order of an empty store, and that of another
 module _ (s : Store) (o : Order) (e : o ≡ noPlaces) where
   pub none : tournamentAt s 0 .used ≡ false → o ≡ orderOf s
   unfolding places listed
   none u = rw u e
 
-  pub starts : (xs : List Link) → tournamentAt s 0 .used ≡ true → (p : Order) → p ≡ withPlace o 0 (tournamentAt s 0 .descriptor .address)
-      → Keeps (withPlaces s p) s 160 0 (tournamentAt s 0 .matches) xs (orderOf s)
-  unfolding withPlaces places listed frames
-  starts xs u p f =
+  pub gathered : tournamentAt s 0 .used ≡ true → (p : Order) → p ≡ withPlace o 0 (tournamentAt s 0 .descriptor .address)
+      → onward s None p (placesFrom 160 s (tournamentAt s 0 .matches) []) .order ≡ orderOf s
+  unfolding onward places listed
+  gathered u p f =
       let ps : List Place = placesFrom 160 s (tournamentAt s 0 .matches) [] in
       let g : places s ≡ record { row = 0; depth = 0 } ∷ ps = rw u in
-      record {
-        is = ap (λ w. withPlaces s w ps) (f ∙ ap (λ w. withPlace w 0 (tournamentAt s 0 .descriptor .address)) e)
-            ∙ with-all s (record { row = 0; depth = 0 } ∷ ps) [] ∙ ap (listed s) (sym g);
-      }
+      ap (λ w. onward s None w ps .order) (f ∙ ap (λ w. withPlace w 0 (tournamentAt s 0 .descriptor .address)) e)
+      ∙ onward-all s (record { row = 0; depth = 0 } ∷ ps) [] ∙ ap (listed s) (sym g)

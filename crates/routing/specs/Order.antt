@@ -1,10 +1,8 @@
 -- The routing order (`places` of the crate `store`) in 32 rows, and the first place in it with an address: "root first, then depth
 -- first in match order, first equal address wins" (document 01, "What crosses over"). Assumes nothing: these are definitions.
-use Prim.Native.Nat.{ℕ, _+_, _-_, min}
-use mathlib.Core.Bool.{cond}
-use mathlib.Core.List.{List, [], _∷_, _++_, map}
-use lib.Dec.{ltb}
-use lib.ListN.{getD, set, length, take, replicate}
+use Prim.Native.Nat.{ℕ, _-_, min}
+use mathlib.Core.List.{List, _++_, map}
+use lib.ListN.{getD, length, take, replicate}
 use Rattle.domain.specs.declared.Address.{Address}
 use Rattle.domain.specs.Values.{sameAddress}
 use Rattle.store.specs.declared.Store.{Store}
@@ -49,20 +47,3 @@ rowOf o (At k) = At (getD (o .rows) k 0)
 -- the row of the first tournament that is kept with that address
 unfoldable pub rowIn : Order → Address → Link
 rowIn o a = rowOf o (firstAt (λ k. sameAddress (addressIn o k) a) 0 (min (o .count) 32))
-
--- What only the code inside this crate hands on: the order gathered place by place, while there is room.
-
-abbrev pub noPlaces : Order
-noPlaces = record { count = 0; rows = replicate 32 32; high = replicate 32 0; mid = replicate 32 0; low = replicate 32 0 }
-
-abbrev pub withPlace : Order → ℕ → Address → Order
-withPlace o t a =
-    cond (ltb (o .count) 32)
-    (record {
-      count = o .count + 1;
-      rows = set (o .rows) (o .count) t;
-      high = set (o .high) (o .count) (a .high);
-      mid = set (o .mid) (o .count) (a .mid);
-      low = set (o .low) (o .count) (a .low);
-    })
-    o

@@ -1,14 +1,16 @@
 // The routing order of a store: the root first, then depth first in match order. Where an address leads, and the whole order at once,
 // in which addresses can then be found without the store.
 use domain::Address;
+use domain::OptionAddress;
 use store::Link;
 use store::Route;
 use store::Store;
 use store::TournamentRow;
 ghost use mathlib.Core.Path.{_≡_};
 ghost use mathlib.Core.List.{[]};
-ghost use Rattle.store.specs.Find.{placesFrom, firstWith, routeRows};
-ghost use Rattle.routing.specs.Order.{orderOf, rowIn, noPlaces, withPlace};
+ghost use Rattle.store.specs.Find.{placesFrom, routeRows};
+ghost use Rattle.routing.specs.Order.{orderOf, rowIn};
+ghost use Rattle.routing.specs.Walk.{noPlaces, withPlace, isWanted, endedWith, onward};
 
 // The tournaments in routing order: the rows of the first `count` places and the words of their addresses; 32 and zeros after them.
 pub struct Order {
@@ -17,6 +19,12 @@ pub struct Order {
     pub high: [u64; 32],
     pub mid: [u64; 32],
     pub low: [u32; 32],
+}
+
+// What a walk comes to: the tournaments that it passed, and where the one that is wanted is.
+struct Walked {
+    order: Order,
+    route: Route,
 }
 
 impl Order {
@@ -56,13 +64,32 @@ pub fn find_tournament(s: Store, address: Address) -> Route
         return Route::Found(0, 0);
     }
     let head = root.matches;
-    find_beneath(s, address, head)
+    let walked = walk(s, OptionAddress::Some(address), no_places(), head);
+    walked.route
 }
 
-// The same beneath the root, from the match at a link on. The matches still to come in the tournaments above wait in `above`, the
-// innermost last.
-fn find_beneath(s: Store, address: Address, mut l: Link) -> Route
-    ensures { λ r. ⌜ r ≡ firstWith s address (placesFrom 160 s l []) ⌝ }
+// The tournaments in routing order, as many as there is room for; none in an empty store.
+pub fn routing_order(s: Store) -> Order
+    ensures { λ r. ⌜ r ≡ orderOf s ⌝ }
+{
+    let root = s.tournaments[0];
+    if !root.used {
+        return no_places();
+    }
+    let head = root.matches;
+    let walked = walk(
+        s,
+        OptionAddress::None,
+        with_place(no_places(), 0, root),
+        head,
+    );
+    walked.order
+}
+
+// The walk beneath the root, from the match at a link on, each tournament noted, up to the one that is wanted, if one is. The matches
+// still to come in the tournaments above wait in `above`, the innermost last.
+fn walk(s: Store, wanted: OptionAddress, mut order: Order, mut l: Link) -> Walked
+    ensures { λ r. ⌜ r ≡ onward s wanted order (placesFrom 160 s l []) ⌝ }
 {
     let mut above = [l; 8];
     let mut depth: usize = 0;
@@ -71,7 +98,7 @@ fn find_beneath(s: Store, address: Address, mut l: Link) -> Route
         left -= 1;
         let Link::At(i) = l else {
             if depth == 0 {
-                return Route::Lost;
+                return ended(order, Route::Lost);
             }
             depth -= 1;
             l = above[depth];
@@ -91,58 +118,32 @@ fn find_beneath(s: Store, address: Address, mut l: Link) -> Route
         if !child.used {
             continue;
         }
-        if child.has_address(address) {
-            return Route::Found(c, depth + 1);
+        if is_wanted(wanted, child) {
+            return ended(order, Route::Found(c, depth + 1));
         }
+        order = with_place(order, c, child);
         above[depth] = l;
         depth += 1;
         l = child.matches;
     }
-    Route::Lost
+    ended(order, Route::Lost)
 }
 
-// The tournaments in routing order, as many as there is room for; none in an empty store.
-pub fn routing_order(s: Store) -> Order
-    ensures { λ r. ⌜ r ≡ orderOf s ⌝ }
+// The end of a walk.
+fn ended(order: Order, route: Route) -> Walked
+    ensures { λ r. ⌜ r ≡ endedWith order route ⌝ }
 {
-    let root = s.tournaments[0];
-    if !root.used {
-        return no_places();
+    Walked { order, route }
+}
+
+// Whether the tournament is the one that is wanted.
+fn is_wanted(wanted: OptionAddress, row: TournamentRow) -> bool
+    ensures { λ r. ⌜ r ≡ isWanted wanted (row .descriptor .address) ⌝ }
+{
+    match wanted {
+        OptionAddress::None => false,
+        OptionAddress::Some(address) => row.has_address(address),
     }
-    let mut order = with_place(no_places(), 0, root);
-    let end = Link::End;
-    let mut above = [end; 8];
-    let mut depth: usize = 0;
-    let mut l = root.matches;
-    let mut left: usize = 160;
-    while left > 0 {
-        left -= 1;
-        let Link::At(i) = l else {
-            if depth == 0 {
-                return order;
-            }
-            depth -= 1;
-            l = above[depth];
-            continue;
-        };
-        if i >= 128 {
-            l = Link::End;
-            continue;
-        }
-        let row = s.matches[i];
-        let c = store::child_beneath(row, depth);
-        l = row.next;
-        if c < 32 {
-            let child = s.tournaments[c];
-            if child.used {
-                order = with_place(order, c, child);
-                above[depth] = l;
-                depth += 1;
-                l = child.matches;
-            }
-        }
-    }
-    order
 }
 
 // Before the first tournament.

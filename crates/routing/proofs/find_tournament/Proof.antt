@@ -1,9 +1,11 @@
 -- `find_tournament` answers where an address leads. Assumes nothing.
 use borrow.Author.Needs.{needs}
 use borrow.Author.Tests.{not-true, not-false}
-use mathlib.Core.Path.{_≡_, _∙_, sym}
+use mathlib.Core.Path.{_≡_, ap, _∙_, sym}
 use Rattle.store.specs.Rows.{tournamentAt}
 use Rattle.store.specs.Find.{places, firstWith, routeRows}
+use Rattle.routing.specs.declared.Walked.{Walked}
+use Rattle.routing.proofs.Gathered.{onward-first}
 use Rattle.routing.proofs.find_tournament.Statement.{statement}
 use Rattle.routing.proofs.find_tournament.Tie as tie
 
@@ -17,7 +19,8 @@ returns-2 c = rw (not-false (tournamentAt (c .before .before .before .before .be
 
 returns-3 : tie.Need-returns-3
 unfolding routeRows places firstWith
-returns-3 c = rw (not-false (tournamentAt (c .before .before .before .before .before .before .args .t1) 0 .used) (c .before .before .before .if1 .left), sym (c .before .before .has-address .ensures) ∙ c .before .if2 .left) (c .find-beneath .ensures)
+returns-3 c = rw (not-false (tournamentAt (c .before .before .before .before .before .before .before .args .t1) 0 .used) (c .before .before .before .before .if1 .left), sym (c .before .before .before .has-address .ensures) ∙ c .before .before .if2 .left) (ap (λ (w : Walked). w .route) (c .walk .ensures) ∙ onward-first _ _ _ _)
 
 pub find-tournament-spec : {M : Type 1} → statement M
-find-tournament-spec = tie.close (tie.spec (λ c. search needs) returns (λ c κs. search needs) returns-2 (λ c κs. search needs) returns-3)
+find-tournament-spec =
+    tie.close (tie.spec (λ c. search needs) returns (λ c κs. search needs) returns-2 (λ c κs. search needs) (λ c κs. search needs) returns-3)
