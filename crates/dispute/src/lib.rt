@@ -1,39 +1,39 @@
 // The event fold: one dispute's tree in rows, changed by one event at a time.
 //
-// Each tournament's events are applied in log order. The fold does not prove again what the contracts guarantee: it refuses only an
-// event that it cannot apply without guessing (an unknown match or commitment, a second join, a transition from the wrong status),
-// and what its rows have no room for. A refused event changes nothing. An opening starts a tree over any store; every other event
-// is taken only where the store is sound, which the entries test first, and keeps it so.
+// A refused event changes nothing. An opening starts a tree over any store; every other event is taken only where the store is sound,
+// which the entries test first, and keeps it so.
 //
-// An event is taken in two steps: lookups alone find what it changes, a `Change` of a few numbers, and then the one function that
+// An event is taken in two steps: the crate `changes` finds what it changes, a `Change` of a few numbers, and then the one function that
 // holds the store changes its rows. So no store is copied for an answer.
+use changes::Change;
+use changes::Links;
+use changes::Seen;
 use digest::Digest;
 use domain::Address;
 use domain::MatchDeletionReason;
 use domain::MatchID;
 use domain::MatchSide;
-use domain::OptionAddress;
 use domain::OptionDigest;
 use domain::TournamentDescriptor;
-use domain::dispute::DisputeError;
 use domain::dispute::Event;
 use domain::dispute::EventKind;
 use domain::dispute::WinnerCommitment;
 use domain::refusal::CoreError;
 use domain::refusal::Refusal;
-use geometry::Checked;
 use record::RecordRead;
+use routing::Order;
 use store::Link;
 use store::MatchStatus;
-use store::Route;
 use store::Store;
 ghost use mathlib.Core.Path.{_≡_};
-ghost use Prim.Native.Nat.{_<_};
-ghost use Rattle.store.specs.Chain.{matchById};
+ghost use Prim.Native.Nat.{_*_, _≤_, _<_};
+ghost use lib.ListN.{length};
+ghost use Rattle.record.specs.Record.{readRecord};
+ghost use Rattle.changes.specs.Within.{LinksWithin};
 ghost use Rattle.dispute.specs.Rows.{openRows, joinRows, createRows, statusRows, innerRows, resolveRows};
-ghost use Rattle.dispute.specs.Apply.{refused, unknownCommitment, isLive, joinAt, createAt, advanceAt, sealAt, innerAt, deleteAt, applyAt, checkKind, emitRows, openAny, stepRows, applyRows};
-ghost use Rattle.dispute.specs.Run.{onRecord, wrongLength, runRows, runNumbers};
-ghost use Rattle.dispute.specs.Change.{takenOver, seen, unknownMatch, clockedOf, liveOf, linked, changeNumber, LinksWithin, Makes};
+ghost use Rattle.dispute.specs.Apply.{refused, linked, applyRows};
+ghost use Rattle.dispute.specs.Run.{wrongLength, runRows, runNumbers};
+ghost use Rattle.dispute.specs.Steps.{takenOver, readChange, changeNumber, askedAt, askedKind, askedRead, After, Went};
 
 // Whether an event was taken, or why not.
 pub enum Answer {
@@ -85,53 +85,16 @@ pub enum MatchFound {
     Refused(Refusal),
 }
 
-// The row of a match that an event may change, or why there is none.
-enum Row {
-    At(usize),
-    Refused(DisputeError),
+// What a record asks for: another status of a clocked match, by its tournament's row and address and its id hash, or something else.
+enum Asked {
+    Clock(usize, Address, Digest, MatchStatus),
+    Other,
 }
 
-// What a lookup saw of a match.
-enum Seen {
-    Nothing,
-    At(usize, MatchStatus),
-}
-
-// What an event does to the store, found by lookups alone: why it is refused, the status of one match, or rows that are linked anew.
-enum Change {
-    Kept(Refusal),
-    Status(usize, MatchStatus),
-    Linked(Links),
-}
-
-// The rows that are linked anew, by their numbers.
-enum Links {
-    Opened {
-        root: TournamentDescriptor,
-    },
-    Joined {
-        t: usize,
-        j: usize,
-        root: Digest,
-    },
-    Created {
-        t: usize,
-        one: usize,
-        two: usize,
-        j: usize,
-        id: MatchID,
-        eliminable_at: u64,
-    },
-    Delegated {
-        i: usize,
-        j: usize,
-        child: TournamentDescriptor,
-    },
-    Deleted {
-        i: usize,
-        reason: MatchDeletionReason,
-        winner: WinnerCommitment,
-    },
+// How far a run has come: the store, and the next record.
+struct Ran {
+    store: Store,
+    next: usize,
 }
 
 // One event over any store. Every event but an opening is refused where the store is not sound.
@@ -141,18 +104,12 @@ pub fn apply(s: Store, e: Event) -> Applied
     if !taken_over(s, e) {
         return refuse(s, Refusal::Core(CoreError::StoreUnsound));
     }
-    let change = step(s, e);
-    match change {
+    match changes::change_of(s, e) {
         Change::Kept(refusal) => refuse(s, refusal),
-        Change::Status(i, status) => {
-            let mut out = s;
-            let row = out.matches[i];
-            out.matches[i] = store::rows::with_status(row, status);
-            Applied {
-                answer: Answer::Accepted,
-                store: out,
-            }
-        }
+        Change::Status(i, status) => Applied {
+            answer: Answer::Accepted,
+            store: status_rows(s, i, status),
+        },
         Change::Linked(links) => Applied {
             answer: Answer::Accepted,
             store: link(s, links),
@@ -176,6 +133,18 @@ pub fn apply_records(s: Store, bytes: &[u8], numbers: &mut [u32]) -> Applied
     if bytes.len() / 176 != n {
         return refuse(s, wrong_length(n));
     }
+    Applied {
+        answer: Answer::Accepted,
+        store: run_all(s, bytes, numbers),
+    }
+}
+
+// The store after a run of whole records, as many as there are numbers.
+fn run_all(s: Store, bytes: &[u8], numbers: &mut [u32]) -> Store
+    requires { ⌜ length (now bytes) ≡ length (now numbers) * 176 ⌝ }
+    ensures { λ r. ⌜ After s (now (bytes .entry)) (now (numbers .entry)) (length (now (numbers .entry))) r (now (numbers .exit)) ⌝ }
+{
+    let n = numbers.len();
     let mut held = s;
     let mut i = 0;
     while i < n {
@@ -188,24 +157,146 @@ pub fn apply_records(s: Store, bytes: &[u8], numbers: &mut [u32]) -> Applied
             Change::Status(j, status) => {
                 let row = held.matches[j];
                 held.matches[j] = store::rows::with_status(row, status);
+                if goes_on(bytes, i) {
+                    let ran = clock_run(held, bytes, numbers, i);
+                    held = ran.store;
+                    i = ran.next;
+                }
             }
             Change::Linked(links) => {
                 held = link(held, links);
             }
         }
     }
-    Applied {
-        answer: Answer::Accepted,
-        store: held,
+    held
+}
+
+// The records from one on that give a clocked match another status, as far as they follow one another. They change no link, so the
+// routing order is that of the first of them, and the store stays in this function.
+fn clock_run(mut s: Store, bytes: &[u8], numbers: &mut [u32], from: usize) -> Ran
+    requires { ⌜ (from ≤ length (now numbers)) × (length (now bytes) ≡ length (now numbers) * 176) ⌝ }
+    ensures { λ r. ⌜ Went (now (bytes .entry)) from s (now (numbers .entry)) (r .next) (r .store) (now (numbers .exit)) ⌝ }
+{
+    let order = routing::routing_order(s);
+    let mut i = from;
+    while i < numbers.len() {
+        let at = i * 176;
+        let Asked::Clock(t, a, id_hash, status) = read_asked(order, &bytes[at..at + 176]) else {
+            break;
+        };
+        let tournament = s.tournaments[t];
+        let mut l = tournament.matches;
+        let mut found = Seen::Nothing;
+        let mut k: usize = 128;
+        while k > 0 {
+            let j = sound::row_of(l, 128);
+            if j >= 128 {
+                break;
+            }
+            let row = s.matches[j];
+            if row.has_id(id_hash) {
+                let own = row.status;
+                found = Seen::At(j, own);
+                break;
+            }
+            l = row.next;
+            k -= 1;
+        }
+        let change = changes::reclock(found, a, id_hash, status);
+        numbers[i] = number_of(change);
+        i += 1;
+        if let Change::Status(j, next) = change {
+            let row = s.matches[j];
+            s.matches[j] = store::rows::with_status(row, next);
+        }
+    }
+    Ran { store: s, next: i }
+}
+
+// Whether there is a record i whose first byte is that of an advance or a seal.
+fn goes_on(bytes: &[u8], i: usize) -> bool
+    requires { ⌜ i * 176 ≤ length (now bytes) ⌝ }
+{
+    let at = i * 176;
+    if at < bytes.len() {
+        let kind = bytes[at];
+        (kind == 3) | (kind == 4)
+    } else {
+        false
+    }
+}
+
+// What a record asks for, where the tournaments stand in that order.
+fn read_asked(order: Order, bytes: &[u8]) -> Asked
+    ensures { λ r. ⌜ r ≡ askedRead order (readRecord (now (bytes .entry))) ⌝ }
+{
+    match record::read_record(bytes) {
+        RecordRead::Told(e) => match e {
+            Event::Opening { root: _ } => Asked::Other,
+            Event::Emitted { tournament, kind } => asked_of(order, tournament, kind),
+        },
+        RecordRead::Refused(_) => Asked::Other,
+    }
+}
+
+// What an event of a tournament asks for.
+fn asked_of(order: Order, a: Address, kind: EventKind) -> Asked
+    ensures { λ r. ⌜ r ≡ askedKind order a kind ⌝ }
+{
+    match kind {
+        EventKind::CommitmentJoined { root: _ } => Asked::Other,
+        EventKind::MatchCreated {
+            id: _,
+            eliminable_at: _,
+        } => Asked::Other,
+        EventKind::MatchAdvanced {
+            match_id_hash,
+            eliminable_at,
+        } => {
+            let status = MatchStatus::Clocked { eliminable_at };
+            asked_at(order.find_row(a), a, match_id_hash, status)
+        }
+        EventKind::LeafMatchSealed {
+            match_id_hash,
+            eliminable_at,
+        } => {
+            let status = MatchStatus::Leaf { eliminable_at };
+            asked_at(order.find_row(a), a, match_id_hash, status)
+        }
+        EventKind::NewInnerTournament {
+            match_id_hash: _,
+            child: _,
+        } => Asked::Other,
+        EventKind::MatchDeleted {
+            match_id_hash: _,
+            reason: _,
+            winner: _,
+        } => Asked::Other,
+    }
+}
+
+// Another status of a match of the tournament in that row, if it is one of the store's.
+fn asked_at(l: Link, a: Address, id_hash: Digest, status: MatchStatus) -> Asked
+    ensures { λ r. ⌜ r ≡ askedAt l a «id_hash» status ⌝ }
+{
+    match l {
+        Link::End => Asked::Other,
+        Link::At(t) => {
+            if t < 32 {
+                Asked::Clock(t, a, id_hash, status)
+            } else {
+                Asked::Other
+            }
+        }
     }
 }
 
 // What one record changes, over a store that is known to be sound.
 fn read_step(s: Store, bytes: &[u8]) -> Change
-    ensures { λ r. ⌜ Makes s (onRecord s (now (bytes .entry))) r ⌝ }
+    ensures { λ r. ⌜ r ≡ readChange s (now (bytes .entry)) ⌝ }
 {
     match record::read_record(bytes) {
-        RecordRead::Told(e) => step(s, e),
+        RecordRead::Told(e) => changes::change_of(s, e),
         RecordRead::Refused(e) => Change::Kept(e),
     }
 }
@@ -226,313 +317,6 @@ fn wrong_length(length: usize) -> Refusal
 {
     Refusal::Core(CoreError::WrongLength {
         length: length as u64,
-    })
-}
-
-// What one event changes, over a store that is known to be sound.
-fn step(s: Store, e: Event) -> Change
-    ensures { λ r. ⌜ Makes s (stepRows s e) r ⌝ }
-{
-    match e {
-        Event::Opening { root } => open(s, root),
-        Event::Emitted { tournament, kind } => emit(s, tournament, kind),
-    }
-}
-
-// An opening: the descriptor's rules and level 0, and then a store with nothing but the root.
-fn open(s: Store, root: TournamentDescriptor) -> Change
-    ensures { λ r. ⌜ Makes s (openAny s root) r ⌝ }
-{
-    match geometry::check_descriptor(root) {
-        Checked::Refused(e) => Change::Kept(Refusal::Domain(e)),
-        Checked::Accepted => {
-            if root.level == 0 {
-                Change::Linked(Links::Opened { root })
-            } else {
-                Change::Kept(Refusal::Dispute(DisputeError::RootTournamentHasLevel(root.level)))
-            }
-        }
-    }
-}
-
-// What the tournament of an address tells.
-fn emit(s: Store, a: Address, kind: EventKind) -> Change
-    ensures { λ r. ⌜ Makes s (emitRows s a kind) r ⌝ }
-{
-    match check_kind(kind) {
-        Checked::Refused(e) => Change::Kept(Refusal::Domain(e)),
-        Checked::Accepted => match routing::find_tournament(s, a) {
-            Route::Lost => Change::Kept(Refusal::Core(CoreError::UnknownTournament {
-                tournament: OptionAddress::Some(a),
-            })),
-            Route::Found(t, depth) => apply_at(s, t, depth, a, kind),
-        },
-    }
-}
-
-// The rules of the descriptor that an event brings, if it brings one.
-fn check_kind(kind: EventKind) -> Checked
-    ensures { λ r. ⌜ r ≡ checkKind kind ⌝ }
-{
-    match kind {
-        EventKind::CommitmentJoined { root: _ } => Checked::Accepted,
-        EventKind::MatchCreated {
-            id: _,
-            eliminable_at: _,
-        } => Checked::Accepted,
-        EventKind::MatchAdvanced {
-            match_id_hash: _,
-            eliminable_at: _,
-        } => Checked::Accepted,
-        EventKind::LeafMatchSealed {
-            match_id_hash: _,
-            eliminable_at: _,
-        } => Checked::Accepted,
-        EventKind::NewInnerTournament {
-            match_id_hash: _,
-            child,
-        } => geometry::check_descriptor(child),
-        EventKind::MatchDeleted {
-            match_id_hash: _,
-            reason: _,
-            winner: _,
-        } => Checked::Accepted,
-    }
-}
-
-// One event of the tournament in row t, which is nested at that depth, the root's being 0.
-fn apply_at(s: Store, t: usize, depth: usize, a: Address, kind: EventKind) -> Change
-    requires { ⌜ (t < 32) × (depth < 8) ⌝ }
-    ensures { λ r. ⌜ Makes s (applyAt s t depth a kind) r ⌝ }
-{
-    match kind {
-        EventKind::CommitmentJoined { root } => join_at(s, t, a, root),
-        EventKind::MatchCreated { id, eliminable_at } => create_at(s, t, a, id, eliminable_at),
-        EventKind::MatchAdvanced {
-            match_id_hash,
-            eliminable_at,
-        } => advance_at(s, t, a, match_id_hash, eliminable_at),
-        EventKind::LeafMatchSealed {
-            match_id_hash,
-            eliminable_at,
-        } => seal_at(s, t, a, match_id_hash, eliminable_at),
-        EventKind::NewInnerTournament {
-            match_id_hash,
-            child,
-        } => inner_at(s, t, depth, a, match_id_hash, child),
-        EventKind::MatchDeleted {
-            match_id_hash,
-            reason,
-            winner,
-        } => delete_at(s, t, a, match_id_hash, reason, winner),
-    }
-}
-
-// A commitment joins. A second join would reset the latest match and silently turn an engaged commitment into the candidate.
-fn join_at(s: Store, t: usize, a: Address, root: Digest) -> Change
-    requires { ⌜ t < 32 ⌝ }
-    ensures { λ r. ⌜ Makes s (joinAt s t a root) r ⌝ }
-{
-    match store::commitment_by_root(s, t, root) {
-        Link::At(_) => Change::Kept(Refusal::Dispute(DisputeError::DuplicateCommitment {
-            tournament: a,
-            commitment: root,
-        })),
-        Link::End => match store::lowest_free_commitment(s) {
-            Link::End => Change::Kept(Refusal::Core(CoreError::NoCommitmentRoom { tournament: a })),
-            Link::At(j) => Change::Linked(Links::Joined { t, j, root }),
-        },
-    }
-}
-
-// A match is created between two commitments that have joined, which may be the same.
-fn create_at(s: Store, t: usize, a: Address, id: MatchID, eliminable_at: u64) -> Change
-    requires { ⌜ t < 32 ⌝ }
-    ensures { λ r. ⌜ Makes s (createAt s t a id «eliminable_at») r ⌝ }
-{
-    let Link::At(one) = store::commitment_by_root(s, t, id.commitment_one) else {
-        return Change::Kept(unknown_commitment(a, id.commitment_one));
-    };
-    let Link::At(two) = store::commitment_by_root(s, t, id.commitment_two) else {
-        return Change::Kept(unknown_commitment(a, id.commitment_two));
-    };
-    let Link::At(j) = store::lowest_free_match(s) else {
-        return Change::Kept(Refusal::Core(CoreError::NoMatchRoom { tournament: a }));
-    };
-    Change::Linked(Links::Created {
-        t,
-        one,
-        two,
-        j,
-        id,
-        eliminable_at,
-    })
-}
-
-// An advance gives a clocked match its next elimination block.
-fn advance_at(s: Store, t: usize, a: Address, id_hash: Digest, eliminable_at: u64) -> Change
-    ensures { λ r. ⌜ Makes s (advanceAt s t a «id_hash» «eliminable_at») r ⌝ }
-{
-    match clocked(find_match(s, t, id_hash), a, id_hash) {
-        Row::Refused(e) => Change::Kept(Refusal::Dispute(e)),
-        Row::At(i) => Change::Status(i, MatchStatus::Clocked { eliminable_at }),
-    }
-}
-
-// A seal turns a clocked match into a leaf race.
-fn seal_at(s: Store, t: usize, a: Address, id_hash: Digest, eliminable_at: u64) -> Change
-    ensures { λ r. ⌜ Makes s (sealAt s t a «id_hash» «eliminable_at») r ⌝ }
-{
-    match clocked(find_match(s, t, id_hash), a, id_hash) {
-        Row::Refused(e) => Change::Kept(Refusal::Dispute(e)),
-        Row::At(i) => Change::Status(i, MatchStatus::Leaf { eliminable_at }),
-    }
-}
-
-// Only a clocked match may delegate: replacing a live child would silently discard its state.
-fn inner_at(
-    s: Store,
-    t: usize,
-    depth: usize,
-    a: Address,
-    id_hash: Digest,
-    child: TournamentDescriptor,
-) -> Change
-    requires { ⌜ depth < 8 ⌝ }
-    ensures { λ r. ⌜ Makes s (innerAt s t depth a «id_hash» child) r ⌝ }
-{
-    match clocked(find_match(s, t, id_hash), a, id_hash) {
-        Row::Refused(e) => Change::Kept(Refusal::Dispute(e)),
-        Row::At(i) => {
-            if depth + 1 < 8 {
-                match store::lowest_free_tournament(s) {
-                    Link::End => {
-                        Change::Kept(Refusal::Core(CoreError::NoTournamentRoom { tournament: a }))
-                    }
-                    Link::At(j) => Change::Linked(Links::Delegated { i, j, child }),
-                }
-            } else {
-                Change::Kept(Refusal::Core(CoreError::NestedTooDeep { tournament: a }))
-            }
-        }
-    }
-}
-
-// Any reason may delete any live match: the contract owns which deletions are legal, and a stricter fold could only stall on one
-// that it did not foresee.
-fn delete_at(
-    s: Store,
-    t: usize,
-    a: Address,
-    id_hash: Digest,
-    reason: MatchDeletionReason,
-    winner: WinnerCommitment,
-) -> Change
-    ensures { λ r. ⌜ Makes s (deleteAt s t a «id_hash» reason winner) r ⌝ }
-{
-    match live(find_match(s, t, id_hash), a, id_hash) {
-        Row::Refused(e) => Change::Kept(Refusal::Dispute(e)),
-        Row::At(i) => Change::Linked(Links::Deleted { i, reason, winner }),
-    }
-}
-
-// The first created match of an id hash in the tournament in row t, with its status: one walk along the chain.
-fn find_match(s: Store, t: usize, id_hash: Digest) -> Seen
-    ensures { λ r. ⌜ r ≡ seen s (matchById s t «id_hash») ⌝ }
-{
-    if t >= 32 {
-        return Seen::Nothing;
-    }
-    let tournament = s.tournaments[t];
-    let mut l = tournament.matches;
-    let mut k: usize = 128;
-    while k > 0 {
-        let Link::At(i) = l else {
-            return Seen::Nothing;
-        };
-        if i >= 128 {
-            return Seen::Nothing;
-        }
-        let row = s.matches[i];
-        if row.has_id(id_hash) {
-            let status = row.status;
-            return Seen::At(i, status);
-        }
-        l = row.next;
-        k -= 1;
-    }
-    Seen::Nothing
-}
-
-// The row of a match that was found, which has to be clocked.
-fn clocked(found: Seen, a: Address, id_hash: Digest) -> Row
-    ensures { λ r. ⌜ r ≡ clockedOf found a «id_hash» ⌝ }
-{
-    match found {
-        Seen::Nothing => unknown_match(a, id_hash),
-        Seen::At(i, status) => {
-            if status.is_clocked() {
-                Row::At(i)
-            } else {
-                Row::Refused(DisputeError::MatchNotClocked {
-                    tournament: a,
-                    match_id_hash: id_hash,
-                })
-            }
-        }
-    }
-}
-
-// The row of a match that was found, which must not be resolved.
-fn live(found: Seen, a: Address, id_hash: Digest) -> Row
-    ensures { λ r. ⌜ r ≡ liveOf found a «id_hash» ⌝ }
-{
-    match found {
-        Seen::Nothing => unknown_match(a, id_hash),
-        Seen::At(i, status) => {
-            if is_live(status) {
-                Row::At(i)
-            } else {
-                Row::Refused(DisputeError::MatchAlreadyResolved {
-                    tournament: a,
-                    match_id_hash: id_hash,
-                })
-            }
-        }
-    }
-}
-
-// Whether the match is in use and not resolved.
-fn is_live(status: MatchStatus) -> bool
-    ensures { λ r. ⌜ r ≡ isLive status ⌝ }
-{
-    match status {
-        MatchStatus::Free => false,
-        MatchStatus::Clocked { eliminable_at: _ } => true,
-        MatchStatus::Leaf { eliminable_at: _ } => true,
-        MatchStatus::Inner { child: _ } => true,
-        MatchStatus::Resolved {
-            reason: _,
-            winner: _,
-        } => false,
-    }
-}
-
-fn unknown_commitment(a: Address, commitment: Digest) -> Refusal
-    ensures { λ r. ⌜ r ≡ unknownCommitment a commitment ⌝ }
-{
-    Refusal::Dispute(DisputeError::UnknownCommitment {
-        tournament: a,
-        commitment,
-    })
-}
-
-fn unknown_match(a: Address, id_hash: Digest) -> Row
-    ensures { λ r. ⌜ r ≡ unknownMatch a «id_hash» ⌝ }
-{
-    Row::Refused(DisputeError::UnknownMatch {
-        tournament: a,
-        match_id_hash: id_hash,
     })
 }
 

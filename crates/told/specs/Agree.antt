@@ -33,7 +33,12 @@ use Rattle.store.specs.Free.{freeS, freeT}
 use Rattle.dispute.specs.declared.Applied.{Applied}
 use Rattle.dispute.specs.Rows.{joinRows, createRows, latestRows, statusRows, innerRows}
 use Rattle.dispute.specs.Apply as rows
-use Rattle.dispute.specs.Apply.{onRow, narrowed, onlyIf, accepted, joinAt, createAt, advanceAt, sealAt, innerAt, deleteAt, matchRow, clockedRow, liveRow, applyAt}
+use Rattle.dispute.specs.Apply.{accepted, performed}
+use Rattle.changes.specs.declared.Change.{Change}
+use Rattle.changes.specs.declared.Change.the-variants.{Linked}
+use Rattle.changes.specs.declared.Links.the-variants.{Delegated}
+use Rattle.changes.specs.Rules as rules
+use Rattle.changes.specs.Rules.{onRow, narrowed, onlyIf, joinAt, createAt, advanceAt, sealAt, innerAt, deleteAt, matchRow, clockedRow, liveRow, applyAt}
 use Rattle.told.specs.Tree.{Tournament, Tournament.tournament, Matches, Status, Status.Clocked, Status.Inner, Status.Resolved, isClocked, isLive, Kind, Kind.tournaments, Kind.matches, Kind.commitments, countC, countT, countM, nestedT, nestedM, nestedS, hasRoom, Answer, Answer.refused, Answer.done, mapped, orElse, need, demand, withMatch, withLatest, push, withStatus, newTournament, unless, lacking, limited, apply}
 use Rattle.told.specs.Held.{Ref, tref, mref, clear, Heap, read, Com, Tour, Tour.tour, Ms, Ms.nil, St, St.clocked, St.leaf, St.inner, St.resolved, plainC, plainT, plainM, plainS, is, occT, occM, occS, rowT, rowS, headM, lastM, HoldsT, HoldsM, HoldsS, Rep}
 use Rattle.told.specs.Heap.{never, put, read-put, Used, Alike}
@@ -110,7 +115,7 @@ clocked-row (leaf n) = refl
 clocked-row (inner c) = refl
 clocked-row (resolved r w) = refl
 
-live-row : (v : St) → rows.isLive (rowS v) ≡ isLive (plainS v)
+live-row : (v : St) → rules.isLive (rowS v) ≡ isLive (plainS v)
 live-row (clocked n) = refl
 live-row (leaf n) = refl
 live-row (inner c) = refl
@@ -133,13 +138,17 @@ module _ (s : Store) (z : Tour) (rep : Rep s z) (n : ℕ) (l : Link) (t : ℕ) (
   abbrev A : Address
   A = d .address
 
-  abbrev R : Applied → Answer Tournament → Type 0
-  R = Same s (formT l) n x
+  abbrev Ends : Applied → Answer Tournament → Type 0
+  Ends = Same s (formT l) n x
+
+  -- a change of the rows, and the answer on the tree
+  abbrev R : Change → Answer Tournament → Type 0
+  R c = Ends (performed s c)
 
   abbrev answer : EventKind → Answer Tournament
   answer k = apply (hasRoom (plainT z)) n (plainT x) k
 
-  stepped : (s′ : Store) (x′ : Tour) → Step s s′ l x x′ → rowT x′ ≡ t → n + nestedT (plainT x′) ≤ 8 → R (accepted s′) (done (plainT x′))
+  stepped : (s′ : Store) (x′ : Tour) → Step s s′ l x x′ → rowT x′ ≡ t → n + nestedT (plainT x′) ≤ 8 → Ends (accepted s′) (done (plainT x′))
   stepped s′ x′ p e v = grow s′ x′ (p .moves) (p .held) e v
 
   fewC : countC commitments (plainC cs) ≤ 256
@@ -176,7 +185,7 @@ module _ (s : Store) (z : Tour) (rep : Rep s z) (n : ℕ) (l : Link) (t : ℕ) (
       two = id .«commitment_two»
 
       made : (p : SpotC one cs) (q : SpotC two cs) (j : ℕ) → read s (mref j) ≡ clear matches → j < length (s .matches)
-          → R (accepted (createRows s t (comC p .row) (comC q .row) j id block))
+          → Ends (accepted (createRows s t (comC p .row) (comC q .row) j id block))
           (done (tournament d (withLatest two (idHash id) (withLatest one (idHash id) (plainC cs))) (push (plainM ms) id
           (Clocked block))))
       made p q j free lj =
@@ -192,16 +201,16 @@ module _ (s : Store) (z : Tour) (rep : Rep s z) (n : ℕ) (l : Link) (t : ℕ) (
           let p₂ : Step s₁ s₂ l x₁ x₂ = subst (λ b. Step s₁ (latestRows s₁ b H) l x₁ x₂) (after-row p H q) (late-step s₁ l t d
           (lateC p H) ms (p₁ .held) (p₁ .moves .once) q′ H) in
           let p₃ : Step s₂ s₃ l x₂ x₃ = append-step s₂ l t d (lateC q′ H) ms (p₂ .held) (p₂ .moves .once) j id block free lj in
-          subst (λ y. R (accepted s₃) (done y)) (ap₂ (tournament d) (plain-late q′ H ∙ ap (withLatest two H) (plain-late p H))
+          subst (λ y. Ends (accepted s₃) (done y)) (ap₂ (tournament d) (plain-late q′ H ∙ ap (withLatest two H) (plain-late p H))
           (plain-snoc ms j id block))
           (stepped s₃ x₃ (step-then s s₁ s₃ l x x₁ x₃ p₁ (step-then s₁ s₂ s₃ l x₁ x₂ x₃ p₂ p₃)) refl
           (omega (arith, nested-snoc ms j id block)))
 
   -- a match whose status passes a test
   look : (f : MatchStatus → Bool) (f′ : Status → Bool) → ((v : St) → f (rowS v) ≡ f′ (plainS v)) → (e : DisputeError) (y : Digest)
-      (next : ℕ → Applied) (o : Option Refusal) (after : Tournament)
+      (next : ℕ → Change) (o : Option Refusal) (after : Tournament)
       → ((q : Spot y ms) → f′ (plainS (stM q)) ≡ true → R (next (rowM q)) (limited o (done after)))
-      → R (onRow s (narrowed (matchRow s t A y) (λ i. onlyIf (f (matchAt s i .status)) i e)) next) (limited o (withMatch A (plainM ms) y
+      → R (onRow (narrowed (matchRow s t A y) (λ i. onlyIf (f (matchAt s i .status)) i e)) next) (limited o (withMatch A (plainM ms) y
       (λ m. demand (f′ (m .status)) (Dispute e) (done after))))
   unfolding matchRow
   look f f′ same e y next o after k =
@@ -209,7 +218,7 @@ module _ (s : Store) (z : Tour) (rep : Rep s z) (n : ℕ) (l : Link) (t : ℕ) (
       (λ q. rw (a-match s l t d cs ms h fewC fewM q, spot-match q, ap (λ r. f (r .status)) (row-at (read s) t q (h .2) .1) ∙ same (stM q))
       (go q (f′ (plainS (stM q))) refl)) (lookM y ms)
     where
-      go : (q : Spot y ms) (b : Bool) → f′ (plainS (stM q)) ≡ b → R (onRow s (onlyIf b (rowM q) e) next)
+      go : (q : Spot y ms) (b : Bool) → f′ (plainS (stM q)) ≡ b → R (onRow (onlyIf b (rowM q) e) next)
           (limited o (demand b (Dispute e) (done after)))
       go q true g = k q g
       go q false g = refuse (Dispute e)
@@ -217,9 +226,9 @@ module _ (s : Store) (z : Tour) (rep : Rep s z) (n : ℕ) (l : Link) (t : ℕ) (
   -- another status put
   put-status : {y : Digest} (q : Spot y ms) (v : St) (s₁ : Store) → Moves s s₁ (λ k. occS k (stM q)) (λ k. occS k v) → HoldsS (read s₁)
       (At (rowM q)) v → n + suc (nestedS (plainS v)) ≤ 8
-      → R (accepted (statusRows s₁ (rowM q) (rowS v))) (done (tournament d (plainC cs) (withStatus y (plainS v) (plainM ms))))
+      → Ends (accepted (statusRows s₁ (rowM q) (rowS v))) (done (tournament d (plainC cs) (withStatus y (plainS v) (plainM ms))))
   put-status {y} q v s₁ m hv nest =
-      subst (λ w. R (accepted (statusRows s₁ (rowM q) (rowS v))) (done (tournament d (plainC cs) w))) (plain-set q v)
+      subst (λ w. Ends (accepted (statusRows s₁ (rowM q) (rowS v))) (done (tournament d (plainC cs) w))) (plain-set q v)
       (stepped (statusRows s₁ (rowM q) (rowS v)) (tour t d cs (setS q v)) (status-step s l t d cs ms h once q v s₁ m hv) refl
       (omega (arith, nested-set q v)))
 
@@ -249,8 +258,8 @@ module _ (s : Store) (z : Tour) (rep : Rep s z) (n : ℕ) (l : Link) (t : ℕ) (
       (NewInnerTournament y child)) _ (λ q e. go q e (ltb (n + 1) 8) refl)
     where
       go : (q : Spot y ms) → isClocked (plainS (stM q)) ≡ true → (b : Bool) → ltb (n + 1) 8 ≡ b
-          → R (rows.demand s b (Core (NestedTooDeep A)) (rows.need s (lowest tournaments s) (Core (NoTournamentRoom A))
-          (λ j. accepted (innerRows s (rowM q) j child))))
+          → R (rules.hold b (Core (NestedTooDeep A)) (rules.need (lowest tournaments s) (Core (NoTournamentRoom A))
+          (λ j. Linked (Delegated (rowM q) j child))))
           (limited (orElse (unless b (Core (NestedTooDeep A))) (unless (hasRoom (plainT z) tournaments) (Core (NoTournamentRoom A))))
           (done (tournament d (plainC cs) (withStatus y (Inner (newTournament child)) (plainM ms)))))
       go q e false g = refuse (Core (NestedTooDeep A))
@@ -269,8 +278,8 @@ module _ (s : Store) (z : Tour) (rep : Rep s z) (n : ℕ) (l : Link) (t : ℕ) (
   own-delete : (y : Digest) (reason : MatchDeletionReason) (winner : WinnerCommitment) → R (deleteAt s t A y reason winner)
       (answer (MatchDeleted y reason winner))
   unfolding deleteAt liveRow
-  own-delete y reason winner = look rows.isLive isLive live-row (MatchAlreadyResolved A y) y _ none _ (λ q e.
-      subst (λ r. R (accepted (statusRows (freeS (freeT 8) s (r .status)) (rowM q) (row.Resolved reason winner)))
+  own-delete y reason winner = look rules.isLive isLive live-row (MatchAlreadyResolved A y) y _ none _ (λ q e.
+      subst (λ r. Ends (accepted (statusRows (freeS (freeT 8) s (r .status)) (rowM q) (row.Resolved reason winner)))
       (done (tournament d (plainC cs) (withStatus y (Resolved reason winner) (plainM ms)))))
       (sym (row-at (read s) t q (h .2) .1))
       (put-status q (resolved reason winner) (freeS (freeT 8) s (rowS (stM q)))

@@ -17,7 +17,8 @@ use Rattle.geometry.specs.declared.Checked.the-variants as checked
 use Rattle.store.specs.declared.Store.{Store}
 use Rattle.dispute.specs.declared.Answer.{Answer as Said}
 use Rattle.dispute.specs.declared.Answer.the-variants as said
-use Rattle.dispute.specs.Apply.{applyRows, checkKind}
+use Rattle.changes.specs.Rules.{checkKind}
+use Rattle.dispute.specs.Apply.{applyRows}
 use Rattle.told.specs.Tree.{Tournament, Answer, Answer.refused, Answer.done, applyRust, toTournament, depthOf, Kind, limit, hasRoom, lacking, newTournament, tell}
 use Rattle.told.specs.Held.{Ref, clear, rowsOf, read, Tour, plainT, Rep}
 use Rattle.told.specs.Good.{Good}

@@ -21,7 +21,7 @@ use Rattle.domain.specs.Values.{sameAddress, idHash, isRoot}
 use Rattle.geometry.specs.declared.Checked.{Checked}
 use Rattle.geometry.specs.declared.Checked.the-variants as checked
 use Rattle.geometry.specs.Geometry.{checkDescriptor}
-use Rattle.dispute.specs.Apply.{checkKind}
+use Rattle.changes.specs.Rules.{checkKind}
 use Rattle.told.specs.Tree.{Commitment, Tournament, Tournament.tournament, Matches, Matches.empty, Matches.created, Status, Status.Clocked, Status.Leaf, Status.Inner, Status.Resolved, isClocked, isLive, descriptorOf, hasRoot, matchByIdHash, Kind, hasRoom, Answer, Answer.refused, Answer.done, demand, need, mapped, omap, orElse, withLatest, push, withStatus, newTournament, applyRust, lacking, limited, apply, toTournament, toMatches, toStatus, passes, openTree, tell}
 use Rattle.told.specs.Heap.{never}
 use Rattle.told.specs.Good.{idsOf, Clock, clocksOf, Distinct, Joined, names, lastNaming, LatestBy, AllClocked, StillClocked, Proper, GoodT, GoodM, GoodS, Good}

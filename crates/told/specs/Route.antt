@@ -19,7 +19,8 @@ use Rattle.store.specs.declared.Route.{Route}
 use Rattle.store.specs.declared.Route.the-variants.{Lost, Found}
 use Rattle.store.specs.Rows.{tournamentAt, usedTournament}
 use Rattle.store.specs.Find.{Place, childIn, pastMatch, placesFrom, places, firstWith, routeRows}
-use Rattle.dispute.specs.Apply.{applyAt}
+use Rattle.dispute.specs.Apply.{performed}
+use Rattle.changes.specs.Rules.{applyAt}
 use Rattle.told.specs.Tree.{Commitment, Tournament, Tournament.tournament, Matches.created, Status.Inner, Kind, Kind.tournaments, Kind.matches, Kind.commitments, oneOf, countC, countT, countM, countS, nestedT, nestedM, nestedS, hasRoom, Answer, mapped, omap, orElse, apply, toTournament, toMatches, toStatus}
 use Rattle.told.specs.Held.{Ref, tref, mref, read, Tour, Tour.tour, Ms, Ms.nil, Ms.cons, St, St.clocked, St.leaf, St.inner, St.resolved, plainC, plainT, plainM, plainS, is, occC, occT, occM, occS, rowT, rowS, headM, orLink, trow, mrow, HoldsT, HoldsM, HoldsS, Rep}
 use Rattle.told.specs.Heap.{is-self, usedM, usedT, frameC, frameM, frameS}
@@ -51,7 +52,7 @@ abbrev mutual
 pub data Agrees (s : Store) (a : Address) (k : EventKind) {Y : Type 0} (F : Form Y) (n : ℕ) (x : F .X) : Route → Option (Answer Y)
     → Type 0 where
   lost : Agrees s a k F n x Lost none
-  found : (t v : ℕ) (b : Answer Y) → Same s F n x (applyAt s t v a k) b → Agrees s a k F n x (Found t v) (some b)
+  found : (t v : ℕ) (b : Answer Y) → Same s F n x (performed s (applyAt s t v a k)) b → Agrees s a k F n x (Found t v) (some b)
 
 module _ (s : Store) (z : Tour) (rep : Rep s z) (a : Address) (k : EventKind) where
   abbrev act : ℕ → Tournament → Answer Tournament
@@ -61,7 +62,7 @@ module _ (s : Store) (z : Tour) (rep : Rep s z) (a : Address) (k : EventKind) wh
       → Inside s F G n m x w u R
       → (r : Route) (o : Option (Answer Y)) → Agrees s a k F n x r o → Agrees s a k G m (w x) r (omap (mapped u) o)
   lifted F G n m x w u R i r o lost = lost
-  lifted F G n m x w u R i r o (found t v b p) = found t v (mapped u b) (lift s F G n m x w u R i (applyAt s t v a k) b p)
+  lifted F G n m x w u R i r o (found t v b p) = found t v (mapped u b) (lift s F G n m x w u R i (performed s (applyAt s t v a k)) b p)
 
   or-else : {Y : Type 0} (F : Form Y) (n : ℕ) (x : F .X) (r r′ : Route) (o o′ : Option (Answer Y)) → Agrees s a k F n x r o
       → Agrees s a k F n x r′ o′ → Agrees s a k F n x (orRoute r r′) (orElse o o′)

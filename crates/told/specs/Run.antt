@@ -29,8 +29,11 @@ use Rattle.sound.specs.Sound.{soundRows}
 use Rattle.dispute.specs.declared.Applied.{Applied}
 use Rattle.dispute.specs.declared.Answer.the-variants as said
 use Rattle.dispute.specs.Rows.{openRows}
-use Rattle.dispute.specs.Apply as rows
-use Rattle.dispute.specs.Apply.{accepted, checkKind, emitRows, openAny, applyRows}
+use Rattle.dispute.specs.Apply.{accepted, performed, applyRows}
+use Rattle.changes.specs.declared.Change.the-variants as change
+use Rattle.changes.specs.declared.Links.the-variants as links
+use Rattle.changes.specs.Rules as rules
+use Rattle.changes.specs.Rules.{checkKind, emitted, opening}
 use Rattle.told.specs.Tree.{Tournament, Answer, Answer.refused, Answer.done, demand, need, passes, hasRoom, applyRust, lacking, limited, toTournament, depthOf, newTournament, applyTree, openTree, tell}
 use Rattle.told.specs.Held.{tref, Tour, plainT, Rep}
 use Rattle.told.specs.Good.{Good}
@@ -83,16 +86,16 @@ many s x h g (e ∷ es) =
 
 -- an accepted one, over any store
 pub record Opened (s : Store) (d : TournamentDescriptor) : Type 0 where
-  pub rows-are : openAny s d ≡ accepted (openRows d)
+  pub rows-are : performed s (opening d) ≡ accepted (openRows d)
   pub level : isRoot d ≡ true
   pub passed : checkDescriptor d ≡ checked.Accepted
 
-pub opened : (s : Store) (d : TournamentDescriptor) → openAny s d .answer ≡ said.Accepted → Opened s d
-unfolding openAny
+pub opened : (s : Store) (d : TournamentDescriptor) → performed s (opening d) .answer ≡ said.Accepted → Opened s d
+unfolding opening
 opened s d e = go (checkDescriptor d) refl (isRoot d) refl e
   where
     go : (c : Checked) → checkDescriptor d ≡ c → (b : Bool) → isRoot d ≡ b
-        → (rows.passes s c (rows.demand s b (Dispute (RootTournamentHasLevel (d .level))) (accepted (openRows d)))) .answer ≡ said.Accepted
+        → performed s (rules.pass c (rules.hold b (Dispute (RootTournamentHasLevel (d .level))) (change.Linked (links.Opened d)))) .answer ≡ said.Accepted
         → Opened s d
     go (checked.Refused r) p b q f = let z : _≡_ {A = ℕ} 0 1 = cc in absurd (omega arith)
     go checked.Accepted p false q f = let z : _≡_ {A = ℕ} 0 1 = cc in absurd (omega arith)
@@ -102,8 +105,8 @@ pub open-good : (d : TournamentDescriptor) → isRoot d ≡ true → checkDescri
 open-good d l c = record { level = l; all = (c, record { distinct = tt; joined = tt; latest = tt; later = tt }, tt) }
 
 -- it opens any other store alike
-pub opens-alike : (s s′ : Store) (d : TournamentDescriptor) → Opened s d → openAny s′ d ≡ accepted (openRows d)
-unfolding openAny
+pub opens-alike : (s s′ : Store) (d : TournamentDescriptor) → Opened s d → performed s′ (opening d) ≡ accepted (openRows d)
+unfolding opening
 opens-alike s s′ d o = rw (o .passed, o .level)
 
 -- ---- the room's refusals
@@ -195,18 +198,18 @@ lost-if-empty : (s : Store) → Empty s → (a : Address) → routeRows s a ≡ 
 unfolding routeRows places firstWith
 lost-if-empty s h a = ap (λ r. firstWith s a (placesOf s (r .used))) (h (tref 0))
 
-kept-if-empty : (s : Store) → Empty s → (a : Address) (k : EventKind) → emitRows s a k .store ≡ s
-unfolding emitRows
-kept-if-empty s h a k = subst (λ r. (rows.passes s (checkKind k) (rows.routed s a k r)) .store ≡ s) (sym (lost-if-empty s h a))
+kept-if-empty : (s : Store) → Empty s → (a : Address) (k : EventKind) → performed s (emitted s a k) .store ≡ s
+unfolding emitted
+kept-if-empty s h a k = subst (λ r. performed s (rules.pass (checkKind k) (rules.routed s a k r)) .store ≡ s) (sym (lost-if-empty s h a))
     (go (checkKind k))
   where
-    go : (c : Checked) → (rows.passes s c (rows.refused s (Core (UnknownTournament (address.Some a))))) .store ≡ s
+    go : (c : Checked) → performed s (rules.pass c (change.Kept (Core (UnknownTournament (address.Some a))))) .store ≡ s
     go checked.Accepted = refl
     go (checked.Refused e) = refl
 
 pub keeps-sound : (s : Store) → Sized s → soundRows s ≡ true → (e : Event) → Sized (applyRows s e .store) ×
     (soundRows (applyRows s e .store) ≡ true)
-keeps-sound s z h (Opening d) = tells-sound s (openAny s d) (openTree d) (opens s d) (opens-good d) (z, h)
+keeps-sound s z h (Opening d) = tells-sound s (performed s (opening d)) (openTree d) (opens s d) (opens-good d) (z, h)
 keeps-sound s z h (Emitted a k) =
     ⊎-elim (λ e. rw h (rw (kept-if-empty s e a k) (z, h)))
     (λ p. tells-sound s (applyRows s (Emitted a k)) (tell (plainT (p .0)) (Emitted a k)) (applies s (p .0) (p .1) (p .2) (Emitted a k))

@@ -29,7 +29,11 @@ use Rattle.store.specs.Find.{routeRows}
 use Rattle.dispute.specs.declared.Applied.{Applied}
 use Rattle.dispute.specs.Rows.{openRows}
 use Rattle.dispute.specs.Apply as rows
-use Rattle.dispute.specs.Apply.{accepted, checkKind, emitRows, openAny, stepRows}
+use Rattle.dispute.specs.Apply.{accepted, performed, stepRows}
+use Rattle.changes.specs.declared.Change.the-variants.{Linked}
+use Rattle.changes.specs.declared.Links.the-variants.{Opened}
+use Rattle.changes.specs.Rules as rules
+use Rattle.changes.specs.Rules.{checkKind, emitted, opening}
 use Rattle.told.specs.Tree.{Tournament, Kind, Kind.tournaments, Kind.matches, Kind.commitments, limit, hasRoom, Answer, Answer.refused, Answer.done, need, apply, toTournament, newTournament, passes, demand, applyTree, openTree, tell}
 use Rattle.told.specs.Held.{tref, clear, rowsOf, read, Tour, Tour.tour, Ms.nil, plainT, occT, Rep}
 use Rattle.told.specs.Heap.{zero?, is-le, keep, read-put, length-put, reach?}
@@ -54,21 +58,21 @@ whole s x h a b (grow s′ x′ m held e deep) = grows s′ x′ (record {
   sized = λ κ. m .sized κ ∙ h .sized κ;
 })
 
-pub emits : (s : Store) (x : Tour) → Rep s x → (a : Address) (k : EventKind) → Tells s (emitRows s a k) (applyTree (plainT x) a k)
-unfolding emitRows
+pub emits : (s : Store) (x : Tour) → Rep s x → (a : Address) (k : EventKind) → Tells s (performed s (emitted s a k)) (applyTree (plainT x) a k)
+unfolding emitted
 emits s x h a k = go (checkKind k)
   where
-    found : (r : Route) (o : Option (Answer Tournament)) → Agrees s a k (formT End) 0 x r o → Tells s (rows.routed s a k r)
+    found : (r : Route) (o : Option (Answer Tournament)) → Agrees s a k (formT End) 0 x r o → Tells s (performed s (rules.routed s a k r))
         (need o (Core (UnknownTournament (address.Some a))) (λ y. y))
     found r o Agrees.lost = refuses (Core (UnknownTournament (address.Some a)))
-    found r o (Agrees.found t v b p) = whole s x h (rows.applyAt s t v a k) b p
+    found r o (Agrees.found t v b p) = whole s x h (performed s (rules.applyAt s t v a k)) b p
 
-    go : (c : Checked) → Tells s (rows.passes s c (rows.routed s a k (routeRows s a)))
+    go : (c : Checked) → Tells s (performed s (rules.pass c (rules.routed s a k (routeRows s a))))
         (passes c (need (toTournament a (λ n y. apply (hasRoom (plainT x)) n y k) 0 (plainT x)) (Core (UnknownTournament (address.Some a)))
         (λ y. y)))
     go (checked.Refused e) = refuses (Domain e)
     go checked.Accepted =
-        subst (λ r. Tells s (rows.routed s a k r) (need (toTournament a (λ n y. apply (hasRoom (plainT x)) n y k) 0 (plainT x))
+        subst (λ r. Tells s (performed s (rules.routed s a k r)) (need (toTournament a (λ n y. apply (hasRoom (plainT x)) n y k) 0 (plainT x))
         (Core (UnknownTournament (address.Some a))) (λ y. y))) (sym (routed s x h a))
         (found (routeT a 0 x) (toTournament a (λ n y. apply (hasRoom (plainT x)) n y k) 0 (plainT x)) (agree-t s x h a k x 0 End (h .held)
         (h .once) (omega (arith, h .shallow)) (λ κ. omega arith)))
@@ -101,17 +105,17 @@ open-rep d = record {
   sized = λ κ. length-put tournaments κ clearStore 0 (openedRow d End) ∙ blank-sized κ;
 }
 
-pub opens : (s : Store) (d : TournamentDescriptor) → Tells s (openAny s d) (openTree d)
-unfolding openAny
+pub opens : (s : Store) (d : TournamentDescriptor) → Tells s (performed s (opening d)) (openTree d)
+unfolding opening
 opens s d = go (checkDescriptor d)
   where
-    root : (b : Bool) → Tells s (rows.demand s b (Dispute (RootTournamentHasLevel (d .level))) (accepted (openRows d)))
+    root : (b : Bool) → Tells s (performed s (rules.hold b (Dispute (RootTournamentHasLevel (d .level))) (Linked (Opened d))))
         (demand b (Dispute (RootTournamentHasLevel (d .level))) (done (newTournament d)))
     root true = grows (openRows d) (tour 0 d [] nil) (open-rep d)
     root false = refuses (Dispute (RootTournamentHasLevel (d .level)))
 
-    go : (c : Checked) → Tells s (rows.passes s c (rows.demand s (eqb (d .level) 0) (Dispute (RootTournamentHasLevel (d .level)))
-        (accepted (openRows d)))) (passes c (demand (eqb (d .level) 0) (Dispute (RootTournamentHasLevel (d .level)))
+    go : (c : Checked) → Tells s (performed s (rules.pass c (rules.hold (eqb (d .level) 0) (Dispute (RootTournamentHasLevel (d .level)))
+        (Linked (Opened d))))) (passes c (demand (eqb (d .level) 0) (Dispute (RootTournamentHasLevel (d .level)))
         (done (newTournament d))))
     go (checked.Refused e) = refuses (Domain e)
     go checked.Accepted = root (eqb (d .level) 0)

@@ -32,7 +32,7 @@ use Rattle.domain.specs.Values.{sameAddress, idHash, isRoot, preserved}
 use Rattle.geometry.specs.declared.Checked.{Checked}
 use Rattle.geometry.specs.declared.Checked.the-variants as checked
 use Rattle.geometry.specs.Geometry.{checkDescriptor}
-use Rattle.dispute.specs.Apply.{checkKind}
+use Rattle.changes.specs.Rules.{checkKind}
 use Rattle.standing_requests.specs.declared.StandingRequest.{StandingRequest}
 
 -- ---- the tree: `Commitment`, `Tournament`, `Match` and `MatchStatus`

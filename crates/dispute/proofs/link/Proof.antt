@@ -1,7 +1,8 @@
 -- `link` answers the store with the rows linked anew. Assumes nothing.
 use borrow.Author.Needs.{needs}
 use mathlib.Core.Path.{ap, sym, subst, _∙_}
-use Rattle.dispute.specs.Change.{linked, LinksWithin}
+use Rattle.changes.specs.Within.{LinksWithin}
+use Rattle.dispute.specs.Apply.{linked}
 use Rattle.dispute.proofs.link.Statement.{statement}
 use Rattle.dispute.proofs.link.Tie as tie
 

@@ -1,7 +1,7 @@
 -- `taken_over` answers whether an event may be taken. Assumes nothing.
 use borrow.Author.Needs.{needs}
 use mathlib.Core.Path.{ap, sym, _∙_}
-use Rattle.dispute.specs.Change.{takenOver}
+use Rattle.dispute.specs.Steps.{takenOver}
 use Rattle.dispute.proofs.taken_over.Statement.{statement}
 use Rattle.dispute.proofs.taken_over.Tie as tie
 
