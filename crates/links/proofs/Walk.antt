@@ -7,8 +7,8 @@ use lib.ListN.{length, getD, take}
 use lib.Seq.{slice}
 use Rattle.domain.specs.declared.refusal.CoreError.the-variants.{LevelsDoNotLink}
 use Rattle.domain.specs.declared.refusal.Refusal.the-variants.{Core}
-use Rattle.planner.specs.declared.SnapshotLevel.{SnapshotLevel}
-use Rattle.planner.specs.Levels.{clear, at, past, first}
+use Rattle.snapshot.specs.declared.SnapshotLevel.{SnapshotLevel}
+use Rattle.snapshot.specs.Laws.{clear, at, past, first}
 use Rattle.links.specs.declared.Linked.{Linked}
 use Rattle.links.specs.declared.Linked.the-variants.{Links, Refused}
 use Rattle.links.specs.Links.{topLinks, pairLinks, linksFrom, linksTop}

@@ -34,13 +34,13 @@ use Rattle.domain.specs.declared.refusal.Refusal.{Refusal}
 use Rattle.domain.specs.declared.refusal.Refusal.the-variants.{Core}
 use Rattle.geometry.specs.Geometry.{checkDescriptor}
 use Rattle.geometry.specs.Table.{number, descriptor}
-use Rattle.planner.specs.declared.SnapshotLevel.{SnapshotLevel}
-use Rattle.planner.specs.declared.SemanticSnapshot.{SemanticSnapshot}
+use Rattle.snapshot.specs.declared.SnapshotLevel.{SnapshotLevel}
+use Rattle.snapshot.specs.declared.SemanticSnapshot.{SemanticSnapshot}
 use Rattle.planner.specs.declared.HeroPlanned.{HeroPlanned}
 use Rattle.planner.specs.declared.HeroPlanned.the-variants as hero
-use Rattle.planner.specs.declared.Tested.{Tested}
-use Rattle.planner.specs.declared.Tested.the-variants as tested
-use Rattle.planner.specs.Snapshot.{used, descriptors, levelRules}
+use Rattle.snapshot.specs.declared.Tested.{Tested}
+use Rattle.snapshot.specs.declared.Tested.the-variants as tested
+use Rattle.snapshot.specs.Snapshot.{used, descriptors, levelRules}
 use Rattle.planner.specs.Hero.{heroNumber, planState, planTimeout, planLocal, planInnerWinner, planStanding, planLevel, planNested, nestedOf, planTop, planHero}
 use Rattle.links.specs.declared.Linked.{Linked}
 use Rattle.links.specs.declared.Linked.the-variants.{Links, Refused}

@@ -14,13 +14,13 @@ use Rattle.domain.specs.declared.OptionParentLink.{OptionParentLink}
 use Rattle.domain.specs.declared.OptionParentLink.the-variants as parent
 use Rattle.domain.specs.declared.refusal.CoreError.the-variants.{SnapshotLevels, LevelsDoNotLink}
 use Rattle.domain.specs.declared.refusal.Refusal.the-variants.{Core}
-use Rattle.planner.specs.Snapshot.{used, levelRules}
-use Rattle.planner.specs.declared.SnapshotLevel.{SnapshotLevel}
-use Rattle.planner.specs.declared.SemanticSnapshot.{SemanticSnapshot}
+use Rattle.snapshot.specs.Snapshot.{used, levelRules}
+use Rattle.snapshot.specs.declared.SnapshotLevel.{SnapshotLevel}
+use Rattle.snapshot.specs.declared.SemanticSnapshot.{SemanticSnapshot}
 use Rattle.links.specs.declared.Linked.{Linked}
 use Rattle.links.specs.declared.Linked.the-variants.{Links, Refused}
-use Rattle.planner.specs.declared.Tested.{Tested}
-use Rattle.planner.specs.declared.Tested.the-variants as tested
+use Rattle.snapshot.specs.declared.Tested.{Tested}
+use Rattle.snapshot.specs.declared.Tested.the-variants as tested
 
 -- 0 means accepted
 abbrev pub linkedNumber : Linked → ℕ

@@ -6,12 +6,12 @@ use domain::LocalCommitmentStanding;
 use domain::OptionParentLink;
 use domain::refusal::CoreError;
 use domain::refusal::Refusal;
-use planner::SemanticSnapshot;
-use planner::SnapshotLevel;
-use planner::Tested;
+use snapshot::SemanticSnapshot;
+use snapshot::SnapshotLevel;
+use snapshot::Tested;
 ghost use mathlib.Core.Path.{_≡_};
 ghost use Prim.Native.Nat.{_<_, _≤_};
-ghost use Rattle.planner.specs.Snapshot.{used};
+ghost use Rattle.snapshot.specs.Snapshot.{used};
 ghost use Rattle.links.specs.Links.{checkLinks, linksTop, topLinks, pairLinks, namesAbove, awaits, stateAwaits};
 
 // What the link check answers.
@@ -24,7 +24,7 @@ pub enum Linked {
 pub fn check_links(s: SemanticSnapshot) -> Linked
     ensures { λ r. ⌜ r ≡ checkLinks s ⌝ }
 {
-    match planner::check_levels(s) {
+    match snapshot::check_levels(s) {
         Tested::Refused(e) => Linked::Refused(e),
         Tested::Passed => links_down(s),
     }

@@ -34,15 +34,15 @@ use Rattle.domain.specs.declared.hero.WaitReason.{WaitReason}
 use Rattle.domain.specs.declared.hero.WaitReason.the-variants as wait
 use Rattle.domain.specs.declared.refusal.CoreError.the-variants.{SnapshotLevels, ParentMissing, ChildMissing}
 use Rattle.domain.specs.declared.refusal.Refusal.the-variants.{Core}
-use Rattle.planner.specs.Snapshot.{used, levelRules}
-use Rattle.planner.specs.declared.SnapshotLevel.{SnapshotLevel}
-use Rattle.planner.specs.declared.SemanticSnapshot.{SemanticSnapshot}
+use Rattle.snapshot.specs.Snapshot.{used, levelRules}
+use Rattle.snapshot.specs.declared.SnapshotLevel.{SnapshotLevel}
+use Rattle.snapshot.specs.declared.SemanticSnapshot.{SemanticSnapshot}
 use Rattle.planner.specs.declared.HeroPlanned.{HeroPlanned}
 use Rattle.planner.specs.declared.HeroPlanned.the-variants.{Decided, Refused}
-use Rattle.planner.specs.declared.Tested.{Tested}
-use Rattle.planner.specs.declared.Tested.the-variants as tested
+use Rattle.snapshot.specs.declared.Tested.{Tested}
+use Rattle.snapshot.specs.declared.Tested.the-variants as tested
 use Rattle.planner.specs.declared.Step.{Step}
-use Rattle.planner.specs.declared.Step.the-variants.{Is, Beneath}
+use Rattle.planner.specs.declared.Step.the-variants.{Decides, Orphan, Beneath}
 
 -- 0 for a decision
 abbrev pub heroNumber : HeroPlanned → ℕ
@@ -142,11 +142,12 @@ planTested (tested.Refused r) answer = Refused r
 unfoldable pub planHero : SemanticSnapshot → HeroPlanned
 planHero s = planTested (levelRules s) (planTop (used s))
 
--- For the contracts of the code's own steps, which are not public: a step gives f where it holds f's answer, whatever is below, or says
--- that f is what is below.
-abbrev pub onward : Step → HeroPlanned → HeroPlanned
-onward (Is answer) below = answer
-onward Beneath below = below
+-- For the contracts of the code's own steps, which are not public: a step gives f where, at every level and whatever is below, it tells
+-- the answer of f.
+abbrev pub onward : ℕ → Step → HeroPlanned → HeroPlanned
+onward level (Decides d) below = Decided d
+onward level Orphan below = Refused (Core (ParentMissing level))
+onward level Beneath below = below
 
-abbrev pub Gives : Step → (HeroPlanned → HeroPlanned) → Type 0
-Gives r f = (below : HeroPlanned) → onward r below ≡ f below
+abbrev pub Gives : Step → (ℕ → HeroPlanned → HeroPlanned) → Type 0
+Gives r f = (level : ℕ) (below : HeroPlanned) → onward level r below ≡ f level below

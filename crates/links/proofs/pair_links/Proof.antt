@@ -9,9 +9,6 @@ use Rattle.links.specs.Links.{pairLinks, namesAbove}
 use Rattle.links.proofs.pair_links.Statement.{statement}
 use Rattle.links.proofs.pair_links.Tie as tie
 
-names-above-requires : tie.Need-names-above-requires
-names-above-requires c κs = search needs
-
 returns : tie.Need-returns
 unfolding pairLinks
 returns c = simp (← c .before .names-above .ensures, not-true (c .before .names-above .result) (c .if1 .taken))
@@ -27,18 +24,12 @@ returns-2 c =
     let a = n .before .before .before .before .args in
     simp (named n, ne-eqb (a .l .descriptor .level) (a .above .descriptor .level + 1) (λ e. omega (arith, e, c .if2 .taken)))
 
-sub-if3 : tie.Need-sub-if3
-sub-if3 c = search needs
-
 returns-3 : tie.Need-returns-3
 unfolding pairLinks
 returns-3 c =
     let n = c .before .before .before .before .before in
     let a = n .before .before .before .before .args in
     simp (named n, ne-eqb (a .l .descriptor .level) (a .above .descriptor .level + 1) (λ e. c .if3 .taken (omega (arith, e))))
-
-awaits-child-requires : tie.Need-awaits-child-requires
-awaits-child-requires c κs = search needs
 
 returns-4 : tie.Need-returns-4
 unfolding pairLinks
@@ -52,11 +43,4 @@ returns-4 c =
 pub pair-links-spec : {M : Type 1} → statement M
 pair-links-spec =
     tie.close
-    (tie.spec
-    names-above-requires
-    returns
-    returns-2
-    sub-if3
-    returns-3
-    awaits-child-requires
-    returns-4)
+    (tie.spec (λ c κs. search needs) returns returns-2 (λ c. search needs) returns-3 (λ c κs. search needs) returns-4)

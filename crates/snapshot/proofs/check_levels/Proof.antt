@@ -6,11 +6,10 @@ use native.Mathlib.Omega.{arith}
 use mathlib.Core.Path.{_≡_, refl, sym, _∙_}
 use lib.ListN.{length, length-map}
 use lib.Seq.{slice}
-use Rattle.planner.specs.Snapshot.{tested}
-use Rattle.planner.proofs.Walks.{bad-here, good-here, good-all}
-use Rattle.planner.specs.Snapshot.{used, descriptors, levelRules}
-use Rattle.planner.proofs.check_levels.Statement.{statement}
-use Rattle.planner.proofs.check_levels.Tie as tie
+use Rattle.snapshot.proofs.Walk.{bad-here, good-here, good-all}
+use Rattle.snapshot.specs.Snapshot.{used, descriptors, tested, levelRules}
+use Rattle.snapshot.proofs.check_levels.Statement.{statement}
+use Rattle.snapshot.proofs.check_levels.Tie as tie
 
 abbrev Inv-loop : tie.InvT-loop
 Inv-loop s length n i₀ i = (i ≤ n) × (descriptors (slice i n (s .levels)) ≡ descriptors (used s))
@@ -37,18 +36,6 @@ returns-2 c = simp (ne-eqb _ _ (c .before .if1 .left), lt-ltb _ _ (c .if2 .taken
 loop-holds : tie.Need-loop-holds Inv-loop μ-loop
 loop-holds c = (omega arith, refl)
 
-mul-l : tie.Need-mul-l Inv-loop μ-loop
-mul-l c = search needs
-
-element-copy-out-l : tie.Need-element-copy-out-l Inv-loop μ-loop
-element-copy-out-l c = search needs
-
-check-descriptor-requires : tie.Need-check-descriptor-requires Inv-loop μ-loop
-check-descriptor-requires c κs = search needs
-
-enum-known-e : tie.Need-enum-known-e Inv-loop μ-loop
-enum-known-e c = search needs
-
 returns-3 : tie.Need-returns-3 Inv-loop μ-loop
 returns-3 c =
     let d = c .before .before .before in
@@ -57,15 +44,6 @@ returns-3 c =
     sym
     (counted (l .before)
     ∙ simp (bad-here _ (l .loop .i) _ (l .loop .inv .1) (d .before .before .loop-test .taken) (omega arith) (sym (d .check-descriptor .ensures) ∙ c .before .e .given .1)))
-
-enum-told : tie.Need-enum-told Inv-loop μ-loop
-enum-told c = search needs
-
-add-i : tie.Need-add-i Inv-loop μ-loop
-add-i c = search needs
-
-loop-less : tie.Need-loop-less Inv-loop μ-loop
-loop-less c = search needs
 
 loop-again : tie.Need-loop-again Inv-loop μ-loop
 loop-again c =
@@ -82,19 +60,5 @@ returns-4 c =
 pub check-levels-spec : {M : Type 1} → statement M
 check-levels-spec =
     tie.close
-    (tie.spec
-    Inv-loop
-    μ-loop
-    returns
-    returns-2
-    loop-holds
-    mul-l
-    element-copy-out-l
-    check-descriptor-requires
-    enum-known-e
-    returns-3
-    enum-told
-    add-i
-    loop-less
-    loop-again
-    returns-4)
+    (tie.spec Inv-loop μ-loop returns returns-2 loop-holds (λ c. search needs) (λ c. search needs) (λ c κs. search needs)
+    (λ c. search needs) returns-3 (λ c. search needs) (λ c. search needs) (λ c. search needs) loop-again returns-4)

@@ -11,10 +11,10 @@ use Rattle.domain.specs.declared.refusal.Refusal.the-variants.{Domain, Core}
 use Rattle.geometry.specs.Geometry.{checkDescriptor, andThen}
 use Rattle.geometry.specs.declared.Checked.{Checked}
 use Rattle.geometry.specs.declared.Checked.the-variants as checked
-use Rattle.planner.specs.declared.SnapshotLevel.{SnapshotLevel}
-use Rattle.planner.specs.declared.SemanticSnapshot.{SemanticSnapshot}
-use Rattle.planner.specs.declared.Tested.{Tested}
-use Rattle.planner.specs.declared.Tested.the-variants.{Passed, Refused}
+use Rattle.snapshot.specs.declared.SnapshotLevel.{SnapshotLevel}
+use Rattle.snapshot.specs.declared.SemanticSnapshot.{SemanticSnapshot}
+use Rattle.snapshot.specs.declared.Tested.{Tested}
+use Rattle.snapshot.specs.declared.Tested.the-variants.{Passed, Refused}
 
 -- 0 means accepted
 abbrev pub testedNumber : Tested → ℕ
