@@ -8,18 +8,9 @@ returns : tie.Need-returns
 unfolding added
 returns c = simp (le-ltb _ _ (c .if1 .taken))
 
-mul-words : tie.Need-mul-words
-mul-words c = search needs
-
-array-write-words : tie.Need-array-write-words
-array-write-words c = search needs
-
-add-t6 : tie.Need-add-t6
-add-t6 c = search needs
-
 returns-2 : tie.Need-returns-2
 unfolding added
 returns-2 c = simp (lt-ltb _ _ (c .before .if1 .left))
 
 pub with-spec : {M : Type 1} → statement M
-with-spec = tie.close (tie.spec returns mul-words array-write-words add-t6 returns-2)
+with-spec = tie.close (tie.spec returns (λ c. search needs) (λ c. search needs) (λ c. search needs) returns-2)

@@ -10,11 +10,6 @@ use Rattle.feed.specs.Step.{Steps}
 use borrow.Author.Needs.{needs}
 use Rattle.feed.proofs.step.Statement.{statement}
 use Rattle.feed.proofs.step.Tie as tie
-use Rattle.feed.proofs.step.Reads as reads
-use Rattle.feed.proofs.step.Lts as lts
-use Rattle.feed.proofs.whole.Reads as whole-reads
-use Rattle.lines.proofs.put_lines.Reads as put-lines-reads
-use Rattle.dispute.proofs.apply_records.Reads as apply-records-reads
 
 -- a step takes no more than there is
 bytes-fit : (n h o m : ℕ) → n ≡ min (min (h / 176) (o / 42)) m → n * 176 ≤ h
@@ -27,30 +22,15 @@ at-count : {s : Store} {i : ℕ} {b ns ns′ o o′ : List ℕ} {n k : ℕ} {a :
     → n ≡ k → Steps s i b ns ns′ o o′ n a → Steps s i b ns ns′ o o′ k a
 at-count {s} {i} {b} {ns} {ns′} {o} {o′} {n} {k} {a} e h = subst (λ (m : ℕ). Steps s i b ns ns′ o o′ m a) e h
 
-whole-requires : tie.Need-whole-requires
-whole-requires c κs = search needs
-
-mul-end : tie.Need-mul-end
-mul-end c = search needs
-
 slice-aggregate-apply-records : tie.Need-slice-aggregate-apply-records
 slice-aggregate-apply-records c =
     let a = c .before .before .before .before .before .args in
     sym (length-take-le _ (a .bytes .now) (bytes-fit _ (length (a .bytes .now)) (length (a .out .now)) (length (a .numbers .now)) (c .before .whole .ensures)))
 
-slice-relend-prefix-apply-records : tie.Need-slice-relend-prefix-apply-records
-slice-relend-prefix-apply-records c = search needs
-
 slice-aggregate-apply-records-2 : tie.Need-slice-aggregate-apply-records-2
 slice-aggregate-apply-records-2 c =
     let a = c .before .before .before .before .before .before .args in
     sym (length-take-le _ (a .numbers .now) (numbers-fit _ (length (a .bytes .now)) (length (a .out .now)) (length (a .numbers .now)) (c .before .before .whole .ensures)))
-
-apply-records-requires : tie.Need-apply-records-requires
-apply-records-requires c κs = search needs
-
-slice-reshare-prefix-put-lines : tie.Need-slice-reshare-prefix-put-lines
-slice-reshare-prefix-put-lines c = search needs
 
 slice-aggregate-put-lines : tie.Need-slice-aggregate-put-lines
 slice-aggregate-put-lines c =
@@ -61,15 +41,6 @@ slice-aggregate-put-lines c =
     let l : length after ≡ n = c .before .before .before .before .apply-records .kept .1 .1 .0 ∙ m in
     let f : take n (after ++ drop n (a .numbers .now)) ≡ after = take-at after (drop n (a .numbers .now)) n l in
     sym (ap length f ∙ l)
-
-put-lines-requires : tie.Need-put-lines-requires
-put-lines-requires c κs = search needs
-
-same-length : tie.Need-same-length
-same-length c = search needs
-
-same-length-2 : tie.Need-same-length-2
-same-length-2 c = search needs
 
 returns : tie.Need-returns
 returns c =
@@ -95,16 +66,6 @@ returns c =
 pub step-spec : {M : Type 1} → statement M
 step-spec =
     tie.close
-    (tie.spec
-    whole-requires
-    mul-end
-    slice-aggregate-apply-records
-    slice-relend-prefix-apply-records
-    slice-aggregate-apply-records-2
-    apply-records-requires
-    slice-reshare-prefix-put-lines
-    slice-aggregate-put-lines
-    put-lines-requires
-    same-length
-    same-length-2
-    returns)
+    (tie.spec (λ c κs. search needs) (λ c. search needs) slice-aggregate-apply-records (λ c. search needs)
+    slice-aggregate-apply-records-2 (λ c κs. search needs) (λ c. search needs) slice-aggregate-put-lines (λ c κs. search needs)
+    (λ c. search needs) (λ c. search needs) returns)

@@ -9,8 +9,6 @@ use lib.ListN.{length, take, drop, set, getD, length-set, length-drop, length-ta
 use lib.Seq.{take-suc, drop-cons, set-at, getD-append-add, getD-drop, length-take-le, append-snoc}
 use Rattle.fold.proofs.keep.Statement.{statement}
 use Rattle.fold.proofs.keep.Tie as tie
-use Rattle.fold.proofs.keep.Reads as reads
-use Rattle.fold.proofs.keep.Lts as lts
 
 -- the byte that is moved is still as it was
 read : (d : List ℕ) (from i : ℕ) → i ≤ length (drop from d) → getD (take i (drop from d) ++ drop i d) (from + i) 0 ≡ getD (drop from d) i 0
@@ -37,26 +35,8 @@ Inv-loop block₀ from to n i₀ block i = (i ≤ n) × (block ≡ take i (drop 
 abbrev μ-loop : tie.MeasureT-loop
 μ-loop block₀ from to n i₀ block i = n - i
 
-sub-n : tie.Need-sub-n Inv-loop μ-loop
-sub-n c = search needs
-
 loop-holds : tie.Need-loop-holds Inv-loop μ-loop
 loop-holds c = (search needs, refl, refl)
-
-add-block : tie.Need-add-block Inv-loop μ-loop
-add-block c = search needs
-
-slice-read-block : tie.Need-slice-read-block Inv-loop μ-loop
-slice-read-block c = search needs
-
-slice-write-block : tie.Need-slice-write-block Inv-loop μ-loop
-slice-write-block c = search needs
-
-add-i : tie.Need-add-i Inv-loop μ-loop
-add-i c = search needs
-
-loop-less : tie.Need-loop-less Inv-loop μ-loop
-loop-less c = search needs
 
 loop-again : tie.Need-loop-again Inv-loop μ-loop
 loop-again c =
@@ -72,9 +52,6 @@ loop-again c =
       simp length-set (v .2),
     )
 
-same-length : tie.Need-same-length Inv-loop μ-loop
-same-length c = search needs
-
 returns : tie.Need-returns Inv-loop μ-loop
 returns c =
     let a = c .before .before .args in
@@ -85,16 +62,5 @@ returns c =
 pub keep-spec : {M : Type 1} → statement M
 keep-spec =
     tie.close
-    (tie.spec
-    Inv-loop
-    μ-loop
-    sub-n
-    loop-holds
-    add-block
-    slice-read-block
-    slice-write-block
-    add-i
-    loop-less
-    loop-again
-    same-length
-    returns)
+    (tie.spec Inv-loop μ-loop (λ c. search needs) loop-holds (λ c. search needs) (λ c. search needs) (λ c. search needs)
+    (λ c. search needs) (λ c. search needs) loop-again (λ c. search needs) returns)

@@ -8,9 +8,6 @@ use Rattle.lines.specs.Text.{linesOf}
 use Rattle.lines.specs.Over.{Put, put-none, put-more, lines-step}
 use Rattle.lines.proofs.put_each.Statement.{statement}
 use Rattle.lines.proofs.put_each.Tie as tie
-use Rattle.lines.proofs.put_each.Reads as reads
-use Rattle.lines.proofs.put_each.Lts as lts
-use Rattle.lines.proofs.put_line.Reads as put-line-reads
 
 abbrev Inv-loop : tie.InvT-loop
 Inv-loop out₀ index numbers at₀ i₀ k₀ out at i k =
@@ -23,26 +20,8 @@ loop-holds : tie.Need-loop-holds Inv-loop μ-loop
 unfolding linesOf
 loop-holds c = (search needs, search needs, search needs, put-none _ _)
 
-mul-put-line : tie.Need-mul-put-line Inv-loop μ-loop
-mul-put-line c = search needs
-
-shared-slice-read-put-line : tie.Need-shared-slice-read-put-line Inv-loop μ-loop
-shared-slice-read-put-line c = search needs
-
 cast-put-line : tie.Need-cast-put-line Inv-loop μ-loop
 cast-put-line c = omega (arith, c .shared-slice-known2 .given (c .before .before .before .loop .i))
-
-put-line-requires : tie.Need-put-line-requires Inv-loop μ-loop
-put-line-requires c κs = search needs
-
-add-i : tie.Need-add-i Inv-loop μ-loop
-add-i c = search needs
-
-add-k : tie.Need-add-k Inv-loop μ-loop
-add-k c = search needs
-
-loop-less : tie.Need-loop-less Inv-loop μ-loop
-loop-less c = search needs
 
 loop-again : tie.Need-loop-again Inv-loop μ-loop
 loop-again c =
@@ -53,9 +32,6 @@ loop-again c =
       rw (lines-step _ _ _ (c .before .before .before .before .before .loop-test .taken), ← v .2) (put-more (v .3) (c .before .before .put-line .ensures .0) (omega arith)),
     )
 
-same-length : tie.Need-same-length Inv-loop μ-loop
-same-length c = search needs
-
 returns : tie.Need-returns Inv-loop μ-loop
 returns c =
     let a = c .before .before .before .before .args in
@@ -64,17 +40,5 @@ returns c =
 pub put-each-spec : {M : Type 1} → statement M
 put-each-spec =
     tie.close
-    (tie.spec
-    Inv-loop
-    μ-loop
-    loop-holds
-    mul-put-line
-    shared-slice-read-put-line
-    cast-put-line
-    put-line-requires
-    add-i
-    add-k
-    loop-less
-    loop-again
-    same-length
-    returns)
+    (tie.spec Inv-loop μ-loop loop-holds (λ c. search needs) (λ c. search needs) cast-put-line (λ c κs. search needs)
+    (λ c. search needs) (λ c. search needs) (λ c. search needs) loop-again (λ c. search needs) returns)

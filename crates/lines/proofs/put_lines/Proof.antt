@@ -9,16 +9,10 @@ use Rattle.lines.specs.Text.{linesIn}
 use borrow.Author.Needs.{needs}
 use Rattle.lines.proofs.put_lines.Statement.{statement}
 use Rattle.lines.proofs.put_lines.Tie as tie
-use Rattle.lines.proofs.put_lines.Reads as reads
-use Rattle.lines.proofs.put_lines.Lts as lts
-use Rattle.lines.proofs.put_each.Reads as put-each-reads
 
 returns : tie.Need-returns
 unfolding linesIn
 returns c = (rw (lt-ltb _ _ (c .if1 .taken)) (put-none _ _), (omega arith, refl))
-
-sub-if2 : tie.Need-sub-if2
-sub-if2 c = search needs
 
 returns-2 : tie.Need-returns-2
 unfolding linesIn
@@ -26,12 +20,6 @@ returns-2 c =
     let a = c .before .before .before .before .args in
     let h : 18446744073709551616 ≤ a .index + length (a .numbers .now) = omega arith in
     (rw (le-ltb _ _ (c .before .if1 .left), le-ltb _ _ h) (put-none _ _), (omega arith, refl))
-
-put-each-requires : tie.Need-put-each-requires
-put-each-requires c κs = search needs
-
-same-length : tie.Need-same-length
-same-length c = search needs
 
 returns-3 : tie.Need-returns-3
 unfolding linesIn
@@ -42,4 +30,4 @@ returns-3 c =
     (rw (le-ltb _ _ (c .before .before .before .before .before .if1 .left), lt-ltb _ _ h) (c .before .before .put-each .ensures .0), (w, sym (length-take-le _ _ w)))
 
 pub put-lines-spec : {M : Type 1} → statement M
-put-lines-spec = tie.close (tie.spec returns sub-if2 returns-2 put-each-requires same-length returns-3)
+put-lines-spec = tie.close (tie.spec returns (λ c. search needs) returns-2 (λ c κs. search needs) (λ c. search needs) returns-3)

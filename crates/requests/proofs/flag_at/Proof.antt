@@ -3,12 +3,9 @@ use borrow.Author.Needs.{needs}
 use Rattle.requests.proofs.flag_at.Statement.{statement}
 use Rattle.requests.proofs.flag_at.Tie as tie
 
-byte-at-requires : tie.Need-byte-at-requires
-byte-at-requires c κs = search needs
-
 returns : tie.Need-returns
 unfolding flagOf
 returns c = cc
 
 pub flag-at-spec : {M : Type 1} → statement M
-flag-at-spec = tie.close (tie.spec byte-at-requires returns)
+flag-at-spec = tie.close (tie.spec (λ c κs. search needs) returns)

@@ -4,9 +4,6 @@ use borrow.Author.Needs.{needs}
 use Rattle.requests.proofs.past.Statement.{statement}
 use Rattle.requests.proofs.past.Tie as tie
 
-add-result : tie.Need-add-result
-add-result c = search needs
-
 returns : tie.Need-returns
 unfolding past
 returns c = simp (lt-ltb _ _ (c .if1 .taken))
@@ -16,4 +13,4 @@ unfolding past
 returns-2 c = simp (le-ltb _ _ (c .if1 .left))
 
 pub past-spec : {M : Type 1} → statement M
-past-spec = tie.close (tie.spec add-result returns returns-2)
+past-spec = tie.close (tie.spec (λ c. search needs) returns returns-2)

@@ -32,5 +32,4 @@ unfolding standingOf
 returns-7 c = simp (ne-eqb _ _ (c .before .before .before .before .before .if1 .left), ne-eqb _ _ (c .before .before .before .before .if2 .left), ne-eqb _ _ (c .before .before .before .if3 .left), ne-eqb _ _ (c .before .before .if4 .left), ne-eqb _ _ (c .before .if5 .left), ne-eqb _ _ (c .if6 .left))
 
 pub standing-of-spec : {M : Type 1} → statement M
-standing-of-spec =
-    tie.close (tie.spec returns returns-2 returns-3 returns-4 returns-5 returns-6 returns-7)
+standing-of-spec = tie.close (tie.spec returns returns-2 returns-3 returns-4 returns-5 returns-6 returns-7)
