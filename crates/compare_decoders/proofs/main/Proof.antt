@@ -11,6 +11,7 @@ abbrev μ-loop : tie.MeasureT-loop
 μ-loop left₀ left = left
 
 pub main-spec : {M : Type 1} → statement M
-main-spec = tie.close
+main-spec =
+    tie.close
     (tie.spec Inv-loop μ-loop (λ c. search needs) (λ c. search needs) (λ c κs. search needs) (λ c. search needs)
     (λ c. search needs) (λ c. search needs) (λ c. search needs))

@@ -3,12 +3,6 @@ use borrow.Author.Needs.{needs}
 use Rattle.standings.proofs.inner_winner.Statement.{statement}
 use Rattle.standings.proofs.inner_winner.Tie as tie
 
-in-match-requires : tie.Need-in-match-requires
-in-match-requires c κs = search needs
-
-with-candidate-requires : tie.Need-with-candidate-requires
-with-candidate-requires c κs = search needs
-
 returns : tie.Need-returns
 returns c = simp (← c .before .before .in-match .ensures, c .before .if1 .taken) (c .with-candidate .ensures)
 
@@ -16,5 +10,4 @@ returns-2 : tie.Need-returns-2
 returns-2 c = simp (← c .before .in-match .ensures, c .if1 .left)
 
 pub inner-winner-spec : {M : Type 1} → statement M
-inner-winner-spec =
-    tie.close (tie.spec in-match-requires with-candidate-requires returns returns-2)
+inner-winner-spec = tie.close (tie.spec (λ c κs. search needs) (λ c κs. search needs) returns returns-2)

@@ -4,24 +4,6 @@ use Rattle.standings.specs.Standing.{standingRules}
 use Rattle.standings.proofs.standing_at.Statement.{statement}
 use Rattle.standings.proofs.standing_at.Tie as tie
 
-enum-told : tie.Need-enum-told
-enum-told c = search needs
-
-root-standing-requires : tie.Need-root-standing-requires
-root-standing-requires c κs = search needs
-
-illegal-requires : tie.Need-illegal-requires
-illegal-requires c κs = search needs
-
-enum-known-parent-match : tie.Need-enum-known-parent-match
-enum-known-parent-match c = search needs
-
-illegal-requires-2 : tie.Need-illegal-requires-2
-illegal-requires-2 c κs = search needs
-
-inner-standing-requires : tie.Need-inner-standing-requires
-inner-standing-requires c κs = search needs
-
 returns : tie.Need-returns
 unfolding standingRules
 returns c = simp (c .before .if1 .taken, c .before .before .enum-told .given .1) (c .root-standing .ensures)
@@ -41,14 +23,5 @@ returns-4 c = simp (c .before .if2 .left, c .before .before .before .parent-matc
 pub standing-at-spec : {M : Type 1} → statement M
 standing-at-spec =
     tie.close
-    (tie.spec
-    enum-told
-    root-standing-requires
-    illegal-requires
-    enum-known-parent-match
-    illegal-requires-2
-    inner-standing-requires
-    returns
-    returns-2
-    returns-3
-    returns-4)
+    (tie.spec (λ c. search needs) (λ c κs. search needs) (λ c κs. search needs) (λ c. search needs) (λ c κs. search needs)
+    (λ c κs. search needs) returns returns-2 returns-3 returns-4)
