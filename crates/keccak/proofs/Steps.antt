@@ -1,5 +1,5 @@
 -- The bits of each step on lanes are those of the step of FIPS 202, and each lane keeps 64 bits. Assumes nothing.
-use mathlib.Core.Path.{_≡_, refl, ap, ap₂, _∙_, subst⁻¹}
+use mathlib.Core.Path.{_≡_, refl, sym, ap, ap₂, _∙_, subst⁻¹}
 use mathlib.Core.Bool.{Bool, true, false, _&&_}
 use mathlib.Core.List.{List, [], _∷_}
 use Prim.Native.Nat.{ℕ, zero, suc, _+_, _-_, _*_, _%_, _^_, _<_}
@@ -11,7 +11,7 @@ use lib.Pow.{pow-pos}
 use Rattle.keccak.specs.Fips202.{StateArray, _⊕_, pick, back, C, D, θ, offset, ρ, π, χ, ι}
 use Rattle.keccak.specs.Sponge.{bit}
 use Rattle.keccak.specs.State.{lane, bits, Agree, IsRC}
-use Rattle.keccak.specs.Lanes.{row, rows, rotated, turned, column, spread, thetaLanes, rhoLanes, piLanes, chiLanes, iotaLanes}
+use Rattle.keccak.specs.Lanes.{row, rows, rotated, turned, column, spread, thetaLanes, rhoLanes, piLanes, chiLanes, iotaLane, iotaLanes}
 use Rattle.keccak.specs.Laws.{below5, at-row, lane-rows}
 use Rattle.keccak.proofs.Bits.{bit-xor, bit-and, bit-not, bit-rotated}
 
@@ -147,3 +147,14 @@ module _ (a : List (List ℕ)) (h : Bounded a) where
       by-pick : (t : Bool) {n m : ℕ} → n < 2 ^ 64 → m < 2 ^ 64 → pick t n m < 2 ^ 64
       by-pick true p q = p
       by-pick false p q = q
+
+-- the step changes the first row alone
+pub iota-rows : (a : List (List ℕ)) (k : ℕ) (r : List ℕ) → r ≡ row (iotaLane (getD a 0 []) k) → Agree (bits (r ∷ getD a 1 [] ∷ getD a 2 [] ∷ getD a 3 [] ∷ getD a 4 [] ∷ [])) (bits (iotaLanes a k))
+iota-rows a k r e =
+    record {
+      at = λ x y z hx hy hz.
+          ap (λ (n : ℕ). bit n z)
+          (below5 (λ (y : ℕ). lane (r ∷ getD a 1 [] ∷ getD a 2 [] ∷ getD a 3 [] ∷ getD a 4 [] ∷ []) x y ≡ lane (iotaLanes a k) x y)
+          (ap (λ (s : List ℕ). getD s x 0) e) (sym (at-row (λ x. lane a x 1) x hx)) (sym (at-row (λ x. lane a x 2) x hx))
+          (sym (at-row (λ x. lane a x 3) x hx)) (sym (at-row (λ x. lane a x 4) x hx)) y hy);
+    }

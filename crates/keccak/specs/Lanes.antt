@@ -26,6 +26,9 @@ rotated x n = bitOr ((x * 2 ^ n) % 2 ^ 64) (x / 2 ^ ((64 - n) % 64))
 abbrev pub turned : List ℕ → List ℕ → List ℕ
 turned r n = row (λ x. rotated (getD r x 0) (getD n x 0))
 
+abbrev pub added : List ℕ → List ℕ → List ℕ
+added r d = row (λ x. bitXor (getD r x 0) (getD d x 0))
+
 abbrev pub column : List (List ℕ) → ℕ → ℕ
 column a x = bitXor (bitXor (bitXor (bitXor (lane a x 0) (lane a x 1)) (lane a x 2)) (lane a x 3)) (lane a x 4)
 
@@ -53,6 +56,10 @@ chiLane r x = bitXor (getD r x 0) (bitAnd ((2 ^ 64 - 1) - getD r ((x + 1) % 5) 0
 
 abbrev pub chiLanes : List (List ℕ) → List (List ℕ)
 chiLanes a = rows (λ x y. chiLane (getD a y []) x)
+
+-- the first row of what follows
+abbrev pub iotaLane : List ℕ → ℕ → ℕ → ℕ
+iotaLane r k x = pick (eqb x 0) (bitXor (getD r x 0) k) (getD r x 0)
 
 abbrev pub iotaLanes : List (List ℕ) → ℕ → List (List ℕ)
 iotaLanes a k = rows (λ x y. pick (eqb y 0 && eqb x 0) (bitXor (lane a x y) k) (lane a x y))

@@ -4,7 +4,7 @@ ghost use Prim.Native.Nat.{ℕ, _<_};
 ghost use lib.ListN.{getD};
 ghost use Rattle.keccak.specs.Fips202.{θ, ρ, π, χ, ι, Rnd, keccakF};
 ghost use Rattle.keccak.specs.State.{bits, Agree, IsRC};
-ghost use Rattle.keccak.specs.Lanes.{row, turned, column, spread, mixed, piLanes, chiLane, iotaLanes};
+ghost use Rattle.keccak.specs.Lanes.{row, rotated, turned, added, column, spread, mixed, piLanes, chiLane, iotaLane};
 
 // The permutation: 24 rounds (FIPS 202, 3.3).
 pub fn keccak_f(a: [[u64; 5]; 5]) -> [[u64; 5]; 5]
@@ -71,20 +71,14 @@ fn chi(a: [[u64; 5]; 5]) -> [[u64; 5]; 5]
 fn iota(a: [[u64; 5]; 5], k: u64) -> [[u64; 5]; 5]
     ensures { λ r. ⌜ ((ir : ℕ) → IsRC ir k → Agree (bits r) (ι ir (bits a))) ⌝ }
 {
-    iota_lanes(a, k)
+    [iota_row(a[0], k), a[1], a[2], a[3], a[4]]
 }
 
 // The sums of the columns.
 fn columns(a: [[u64; 5]; 5]) -> [u64; 5]
     ensures { λ r. ⌜ r ≡ row (column a) ⌝ }
 {
-    [
-        a[0][0] ^ a[1][0] ^ a[2][0] ^ a[3][0] ^ a[4][0],
-        a[0][1] ^ a[1][1] ^ a[2][1] ^ a[3][1] ^ a[4][1],
-        a[0][2] ^ a[1][2] ^ a[2][2] ^ a[3][2] ^ a[4][2],
-        a[0][3] ^ a[1][3] ^ a[2][3] ^ a[3][3] ^ a[4][3],
-        a[0][4] ^ a[1][4] ^ a[2][4] ^ a[3][4] ^ a[4][4],
-    ]
+    add(add(add(add(a[0], a[1]), a[2]), a[3]), a[4])
 }
 
 // For each column, the sum of the one before it in c and of the one after it in t.
@@ -105,67 +99,64 @@ fn mix(a: [[u64; 5]; 5], d: [u64; 5]) -> [[u64; 5]; 5]
     ensures { λ r. ⌜ r ≡ mixed a d ⌝ }
 {
     [
-        [
-            a[0][0] ^ d[0],
-            a[0][1] ^ d[1],
-            a[0][2] ^ d[2],
-            a[0][3] ^ d[3],
-            a[0][4] ^ d[4],
-        ],
-        [
-            a[1][0] ^ d[0],
-            a[1][1] ^ d[1],
-            a[1][2] ^ d[2],
-            a[1][3] ^ d[3],
-            a[1][4] ^ d[4],
-        ],
-        [
-            a[2][0] ^ d[0],
-            a[2][1] ^ d[1],
-            a[2][2] ^ d[2],
-            a[2][3] ^ d[3],
-            a[2][4] ^ d[4],
-        ],
-        [
-            a[3][0] ^ d[0],
-            a[3][1] ^ d[1],
-            a[3][2] ^ d[2],
-            a[3][3] ^ d[3],
-            a[3][4] ^ d[4],
-        ],
-        [
-            a[4][0] ^ d[0],
-            a[4][1] ^ d[1],
-            a[4][2] ^ d[2],
-            a[4][3] ^ d[3],
-            a[4][4] ^ d[4],
-        ],
+        add(a[0], d),
+        add(a[1], d),
+        add(a[2], d),
+        add(a[3], d),
+        add(a[4], d),
     ]
 }
 
-// Each lane of a row turned by its own count: the bits move up, those past the top to the bottom.
+// The sums of two rows, lane by lane.
+fn add(r: [u64; 5], d: [u64; 5]) -> [u64; 5]
+    ensures { λ s. ⌜ s ≡ added r d ⌝ }
+{
+    [
+        r[0] ^ d[0],
+        r[1] ^ d[1],
+        r[2] ^ d[2],
+        r[3] ^ d[3],
+        r[4] ^ d[4],
+    ]
+}
+
+// Each lane of a row turned by its own count.
 fn turn(r: [u64; 5], n: [u32; 5]) -> [u64; 5]
     requires { ⌜ (getD n 0 0 < 64) × (getD n 1 0 < 64) × (getD n 2 0 < 64) × (getD n 3 0 < 64) × (getD n 4 0 < 64) ⌝ }
     ensures { λ s. ⌜ s ≡ turned r n ⌝ }
 {
     [
-        (r[0] << n[0]) | (r[0] >> ((64 - n[0]) % 64)),
-        (r[1] << n[1]) | (r[1] >> ((64 - n[1]) % 64)),
-        (r[2] << n[2]) | (r[2] >> ((64 - n[2]) % 64)),
-        (r[3] << n[3]) | (r[3] >> ((64 - n[3]) % 64)),
-        (r[4] << n[4]) | (r[4] >> ((64 - n[4]) % 64)),
+        rotate(r[0], n[0]),
+        rotate(r[1], n[1]),
+        rotate(r[2], n[2]),
+        rotate(r[3], n[3]),
+        rotate(r[4], n[4]),
     ]
 }
 
+// The bits of a lane moved up by n, those past the top to the bottom.
+fn rotate(x: u64, n: u32) -> u64
+    requires { ⌜ n < 64 ⌝ }
+    ensures { λ r. ⌜ r ≡ rotated x n ⌝ }
+{
+    (x << n) | (x >> ((64 - n) % 64))
+}
+
+// What pi makes, on whole lanes.
 fn pi_lanes(a: [[u64; 5]; 5]) -> [[u64; 5]; 5]
     ensures { λ r. ⌜ r ≡ piLanes a ⌝ }
 {
+    let p = a[0];
+    let q = a[1];
+    let r = a[2];
+    let s = a[3];
+    let t = a[4];
     [
-        [a[0][0], a[1][1], a[2][2], a[3][3], a[4][4]],
-        [a[0][3], a[1][4], a[2][0], a[3][1], a[4][2]],
-        [a[0][1], a[1][2], a[2][3], a[3][4], a[4][0]],
-        [a[0][4], a[1][0], a[2][1], a[3][2], a[4][3]],
-        [a[0][2], a[1][3], a[2][4], a[3][0], a[4][1]],
+        [p[0], q[1], r[2], s[3], t[4]],
+        [p[3], q[4], r[0], s[1], t[2]],
+        [p[1], q[2], r[3], s[4], t[0]],
+        [p[4], q[0], r[1], s[2], t[3]],
+        [p[2], q[3], r[4], s[0], t[1]],
     ]
 }
 
@@ -182,16 +173,11 @@ fn chi_row(r: [u64; 5]) -> [u64; 5]
     ]
 }
 
-fn iota_lanes(a: [[u64; 5]; 5], k: u64) -> [[u64; 5]; 5]
-    ensures { λ r. ⌜ r ≡ iotaLanes a k ⌝ }
+// The first row of iota.
+fn iota_row(r: [u64; 5], k: u64) -> [u64; 5]
+    ensures { λ s. ⌜ s ≡ row (iotaLane r k) ⌝ }
 {
-    [
-        [a[0][0] ^ k, a[0][1], a[0][2], a[0][3], a[0][4]],
-        [a[1][0], a[1][1], a[1][2], a[1][3], a[1][4]],
-        [a[2][0], a[2][1], a[2][2], a[2][3], a[2][4]],
-        [a[3][0], a[3][1], a[3][2], a[3][3], a[3][4]],
-        [a[4][0], a[4][1], a[4][2], a[4][3], a[4][4]],
-    ]
+    [r[0] ^ k, r[1], r[2], r[3], r[4]]
 }
 
 // The lanes RC of the 24 rounds. They are taken once, before the rounds: a table that is indexed is written out where it is indexed.
