@@ -171,8 +171,8 @@ fn run_all(s: Store, bytes: &[u8], numbers: &mut [u32]) -> Store
     held
 }
 
-// The records from one on that give a clocked match another status, as far as they follow one another. They change no link, so the
-// routing order is that of the first of them, and the store stays in this function.
+// The records from one on that give a clocked match another status, as far as they follow one another. They link no row anew, so that
+// the routing order is gathered once for all of them, and the store stays in this function: no record copies it.
 fn clock_run(mut s: Store, bytes: &[u8], numbers: &mut [u32], from: usize) -> Ran
     requires { ⌜ (from ≤ length (now numbers)) × (length (now bytes) ≡ length (now numbers) * 176) ⌝ }
     ensures { λ r. ⌜ Went (now (bytes .entry)) from s (now (numbers .entry)) (r .next) (r .store) (now (numbers .exit)) ⌝ }
@@ -213,7 +213,8 @@ fn clock_run(mut s: Store, bytes: &[u8], numbers: &mut [u32], from: usize) -> Ra
     Ran { store: s, next: i }
 }
 
-// Whether there is a record i whose first byte is that of an advance or a seal.
+// Whether there is a record i whose first byte is that of an advance or a seal, so that taking the records from there on together is
+// worth its start. The answers are the same either way.
 fn goes_on(bytes: &[u8], i: usize) -> bool
     requires { ⌜ i * 176 ≤ length (now bytes) ⌝ }
 {
