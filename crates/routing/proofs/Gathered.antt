@@ -13,32 +13,68 @@ use Rattle.domain.specs.declared.OptionAddress.{OptionAddress}
 use Rattle.domain.specs.declared.OptionAddress.the-variants.{None, Some}
 use Rattle.domain.specs.Values.{sameAddress}
 use Rattle.store.specs.declared.Store.{Store}
-use Rattle.store.specs.declared.Route.the-variants.{Found}
+use Rattle.store.specs.declared.Link.{Link}
+use Rattle.store.specs.declared.Link.the-variants.{End}
+use Rattle.store.specs.declared.Route.{Route}
+use Rattle.store.specs.declared.Route.the-variants.{Lost, Found}
 use Rattle.store.specs.Rows.{tournamentAt}
 use Rattle.store.specs.Find.{Place, placesFrom, places, firstWith}
 use Rattle.routing.specs.declared.Order.{Order}
+use Rattle.store.specs.Routing.{frames, Keeps}
 use Rattle.routing.specs.declared.Walked.{Walked}
+use Rattle.routing.specs.declared.Start.{Start}
 use Rattle.routing.specs.Order.{inRows, placeAddress, listed, orderOf}
-use Rattle.routing.specs.Walk.{noPlaces, withPlace, isWanted, endedWith, onward}
+use Rattle.routing.specs.Walk.{noPlaces, withPlace, isWanted, begunAt, endedWith, onward}
+
+from-end : (s : Store) → placesFrom 160 s End [] ≡ []
+unfolding placesFrom
+from-end s = refl
+
+-- where the walk begins
+abbrev comes : Store → OptionAddress → Start → Walked
+comes s w b = onward s w (b .route) (b .order) (placesFrom 160 s (b .next) [])
+
+pub begins : (s : Store) (w : OptionAddress) (xs : List Link) (b : Start) → b ≡ begunAt w (tournamentAt s 0)
+    → Keeps (onward s w (b .route) (b .order)) s 160 0 (b .next) xs (onward s w Lost noPlaces (places s))
+unfolding onward places frames
+begins s w xs b e =
+    record { is = ap (comes s w) e ∙ go (tournamentAt s 0 .used) (isWanted w (tournamentAt s 0 .descriptor .address)) refl }
+  where
+    met : Bool → Walked
+    met t =
+        cond t
+        (endedWith noPlaces (Found 0 0))
+        (onward s w Lost (withPlace noPlaces 0 (tournamentAt s 0 .descriptor .address)) (placesFrom 160 s (tournamentAt s 0 .matches) []))
+
+    go : (u t : Bool) → isWanted w (tournamentAt s 0 .descriptor .address) ≡ t
+        → comes s w (cond u
+        (cond t
+        (record { order = noPlaces; route = Found 0 0; next = End })
+        (record { order = withPlace noPlaces 0 (tournamentAt s 0 .descriptor .address); route = Lost; next = tournamentAt s 0 .matches }))
+        (record { order = noPlaces; route = Lost; next = End }))
+        ≡ onward s w Lost noPlaces (cond u (record { row = 0; depth = 0 } ∷ placesFrom 160 s (tournamentAt s 0 .matches) []) [])
+    go false t e = ap (onward s w Lost noPlaces) (from-end s)
+    go true true e = ap (onward s w (Found 0 0) noPlaces) (from-end s) ∙ ap met (sym e)
+    go true false e = ap met (sym e)
 
 -- the first of the places that are still to be met, and those after it
-module _ (s : Store) (w : OptionAddress) (o : Order) (p : Place) (ps : List Place) (x : Walked) (q : onward s w o (p ∷ ps) ≡ x) where
+module _ (s : Store) (w : OptionAddress) (r : Route) (o : Order) (p : Place) (ps : List Place) (x : Walked) (q : onward s w r o (p ∷ ps) ≡ x) where
   pub wanted-here : isWanted w (placeAddress s p) ≡ true → endedWith o (Found (p .row) (p .depth)) ≡ x
   unfolding onward
   wanted-here t = rw t at q
 
-  pub wanted-on : isWanted w (placeAddress s p) ≡ false → (o′ : Order) → o′ ≡ withPlace o (p .row) (placeAddress s p) → onward s w o′ ps ≡ x
+  pub wanted-on : isWanted w (placeAddress s p) ≡ false → (o′ : Order) → o′ ≡ withPlace o (p .row) (placeAddress s p) → onward s w r o′ ps ≡ x
   unfolding onward
-  wanted-on t o′ e = ap (λ v. onward s w v ps) e ∙ (rw t at q)
+  wanted-on t o′ e = ap (λ v. onward s w r v ps) e ∙ (rw t at q)
 
 -- to a wanted address the walk leads as routing does
-pub onward-first : (s : Store) (a : Address) (o : Order) (ps : List Place) → onward s (Some a) o ps .route ≡ firstWith s a ps
+pub onward-first : (s : Store) (a : Address) (o : Order) (ps : List Place) → onward s (Some a) Lost o ps .route ≡ firstWith s a ps
 unfolding onward firstWith
 onward-first s a o [] = refl
 onward-first s a o (p ∷ ps) = go (sameAddress (placeAddress s p) a) (onward-first s a (withPlace o (p .row) (placeAddress s p)) ps)
   where
-    go : (b : Bool) → onward s (Some a) (withPlace o (p .row) (placeAddress s p)) ps .route ≡ firstWith s a ps
-        → cond b (endedWith o (Found (p .row) (p .depth))) (onward s (Some a) (withPlace o (p .row) (placeAddress s p)) ps) .route
+    go : (b : Bool) → onward s (Some a) Lost (withPlace o (p .row) (placeAddress s p)) ps .route ≡ firstWith s a ps
+        → cond b (endedWith o (Found (p .row) (p .depth))) (onward s (Some a) Lost (withPlace o (p .row) (placeAddress s p)) ps) .route
         ≡ cond b (Found (p .row) (p .depth)) (firstWith s a ps)
     go true e = refl
     go false e = e
@@ -109,23 +145,12 @@ with-one s ps p = go (ltb (min (length ps) 32) 32) refl
         λ i. record { count = q i; rows = r₀ i; high = r₁ i; mid = r₂ i; low = r₃ i }
 
 -- where none is wanted the walk gathers all places
-onward-all : (s : Store) (ps qs : List Place) → onward s None (listed s qs) ps .order ≡ listed s (qs ++ ps)
+onward-all : (s : Store) (ps qs : List Place) → onward s None Lost (listed s qs) ps .order ≡ listed s (qs ++ ps)
 unfolding onward
 onward-all s [] qs = ap (listed s) (sym (append-nil qs))
 onward-all s (p ∷ ps) qs =
-    ap (λ o. onward s None o ps .order) (with-one s qs p) ∙ onward-all s ps (qs ++ (p ∷ [])) ∙ ap (listed s) (append-assoc qs (p ∷ []) ps)
+    ap (λ o. onward s None Lost o ps .order) (with-one s qs p) ∙ onward-all s ps (qs ++ (p ∷ [])) ∙ ap (listed s) (append-assoc qs (p ∷ []) ps)
 
--- the order of an empty store, and that of another
-module _ (s : Store) (o : Order) (e : o ≡ noPlaces) where
-  pub none : tournamentAt s 0 .used ≡ false → o ≡ orderOf s
-  unfolding places listed
-  none u = rw u e
-
-  pub gathered : tournamentAt s 0 .used ≡ true → (p : Order) → p ≡ withPlace o 0 (tournamentAt s 0 .descriptor .address)
-      → onward s None p (placesFrom 160 s (tournamentAt s 0 .matches) []) .order ≡ orderOf s
-  unfolding onward places listed
-  gathered u p f =
-      let ps : List Place = placesFrom 160 s (tournamentAt s 0 .matches) [] in
-      let g : places s ≡ record { row = 0; depth = 0 } ∷ ps = rw u in
-      ap (λ w. onward s None w ps .order) (f ∙ ap (λ w. withPlace w 0 (tournamentAt s 0 .descriptor .address)) e)
-      ∙ onward-all s (record { row = 0; depth = 0 } ∷ ps) [] ∙ ap (listed s) (sym g)
+pub gathered : (s : Store) → onward s None Lost noPlaces (places s) .order ≡ orderOf s
+unfolding listed
+gathered s = onward-all s (places s) []

@@ -10,11 +10,14 @@ use Rattle.domain.specs.declared.OptionAddress.{OptionAddress}
 use Rattle.domain.specs.declared.OptionAddress.the-variants.{None, Some}
 use Rattle.domain.specs.Values.{sameAddress}
 use Rattle.store.specs.declared.Store.{Store}
+use Rattle.store.specs.declared.TournamentRow.{TournamentRow}
+use Rattle.store.specs.declared.Link.the-variants.{End}
 use Rattle.store.specs.declared.Route.{Route}
 use Rattle.store.specs.declared.Route.the-variants.{Lost, Found}
 use Rattle.store.specs.Find.{Place}
 use Rattle.routing.specs.declared.Order.{Order}
 use Rattle.routing.specs.declared.Walked.{Walked}
+use Rattle.routing.specs.declared.Start.{Start}
 use Rattle.routing.specs.Order.{placeAddress}
 
 abbrev pub noPlaces : Order
@@ -39,8 +42,17 @@ isWanted (Some w) a = sameAddress a w
 abbrev pub endedWith : Order → Route → Walked
 endedWith o r = record { order = o; route = r }
 
--- what the walk comes to that still meets these places
-unfoldable pub onward : Store → OptionAddress → Order → List Place → Walked
-onward s w o [] = endedWith o Lost
-onward s w o (p ∷ ps) =
-    cond (isWanted w (placeAddress s p)) (endedWith o (Found (p .row) (p .depth))) (onward s w (withPlace o (p .row) (placeAddress s p)) ps)
+-- where a walk begins: at the root, past which it goes only if that is in use and not wanted
+abbrev pub begunAt : OptionAddress → TournamentRow → Start
+begunAt w r =
+    cond (r .used)
+    (cond (isWanted w (r .descriptor .address))
+    (record { order = noPlaces; route = Found 0 0; next = End })
+    (record { order = withPlace noPlaces 0 (r .descriptor .address); route = Lost; next = r .matches }))
+    (record { order = noPlaces; route = Lost; next = End })
+
+-- what a walk comes to that still meets these places, and `x` where it meets none that is wanted
+unfoldable pub onward : Store → OptionAddress → Route → Order → List Place → Walked
+onward s w x o [] = endedWith o x
+onward s w x o (p ∷ ps) =
+    cond (isWanted w (placeAddress s p)) (endedWith o (Found (p .row) (p .depth))) (onward s w x (withPlace o (p .row) (placeAddress s p)) ps)

@@ -7,10 +7,10 @@ use store::Route;
 use store::Store;
 use store::TournamentRow;
 ghost use mathlib.Core.Path.{_≡_};
-ghost use mathlib.Core.List.{[]};
-ghost use Rattle.store.specs.Find.{placesFrom, routeRows};
+ghost use Rattle.store.specs.declared.Route.the-variants.{Lost};
+ghost use Rattle.store.specs.Find.{places, routeRows};
 ghost use Rattle.routing.specs.Order.{orderOf, rowIn};
-ghost use Rattle.routing.specs.Walk.{noPlaces, withPlace, isWanted, endedWith, onward};
+ghost use Rattle.routing.specs.Walk.{noPlaces, withPlace, isWanted, begunAt, endedWith, onward};
 
 // The tournaments in routing order: the rows of the first `count` places and the words of their addresses; 32 and zeros after them.
 pub struct Order {
@@ -25,6 +25,13 @@ pub struct Order {
 struct Walked {
     order: Order,
     route: Route,
+}
+
+// How a walk begins: the same after the root alone, and the matches to go on with.
+struct Start {
+    order: Order,
+    route: Route,
+    next: Link,
 }
 
 impl Order {
@@ -56,15 +63,7 @@ impl Order {
 pub fn find_tournament(s: Store, address: Address) -> Route
     ensures { λ r. ⌜ r ≡ routeRows s address ⌝ }
 {
-    let root = s.tournaments[0];
-    if !root.used {
-        return Route::Lost;
-    }
-    if root.has_address(address) {
-        return Route::Found(0, 0);
-    }
-    let head = root.matches;
-    let walked = walk(s, OptionAddress::Some(address), no_places(), head);
+    let walked = walk(s, OptionAddress::Some(address));
     walked.route
 }
 
@@ -72,25 +71,20 @@ pub fn find_tournament(s: Store, address: Address) -> Route
 pub fn routing_order(s: Store) -> Order
     ensures { λ r. ⌜ r ≡ orderOf s ⌝ }
 {
-    let root = s.tournaments[0];
-    if !root.used {
-        return no_places();
-    }
-    let head = root.matches;
-    let walked = walk(
-        s,
-        OptionAddress::None,
-        with_place(no_places(), 0, root),
-        head,
-    );
+    let walked = walk(s, OptionAddress::None);
     walked.order
 }
 
-// The walk beneath the root, from the match at a link on, each tournament noted, up to the one that is wanted, if one is. The matches
-// still to come in the tournaments above wait in `above`, the innermost last.
-fn walk(s: Store, wanted: OptionAddress, mut order: Order, mut l: Link) -> Walked
-    ensures { λ r. ⌜ r ≡ onward s wanted order (placesFrom 160 s l []) ⌝ }
+// The walk through the tournaments in routing order, each noted, up to the one that is wanted, if one is. The matches still to come in
+// the tournaments above wait in `above`, the innermost last.
+fn walk(s: Store, wanted: OptionAddress) -> Walked
+    ensures { λ r. ⌜ r ≡ onward s wanted Lost noPlaces (places s) ⌝ }
 {
+    let root = s.tournaments[0];
+    let start = begun(wanted, root);
+    let mut order = start.order;
+    let missed = start.route;
+    let mut l = start.next;
     let mut above = [l; 8];
     let mut depth: usize = 0;
     let mut left: usize = 160;
@@ -98,7 +92,7 @@ fn walk(s: Store, wanted: OptionAddress, mut order: Order, mut l: Link) -> Walke
         left -= 1;
         let Link::At(i) = l else {
             if depth == 0 {
-                return ended(order, Route::Lost);
+                return ended(order, missed);
             }
             depth -= 1;
             l = above[depth];
@@ -111,22 +105,46 @@ fn walk(s: Store, wanted: OptionAddress, mut order: Order, mut l: Link) -> Walke
         let row = s.matches[i];
         let c = store::child_beneath(row, depth);
         l = row.next;
-        if c >= 32 {
-            continue;
+        if c < 32 {
+            let child = s.tournaments[c];
+            if child.used {
+                if is_wanted(wanted, child) {
+                    return ended(order, Route::Found(c, depth + 1));
+                }
+                order = with_place(order, c, child);
+                above[depth] = l;
+                depth += 1;
+                l = child.matches;
+            }
         }
-        let child = s.tournaments[c];
-        if !child.used {
-            continue;
-        }
-        if is_wanted(wanted, child) {
-            return ended(order, Route::Found(c, depth + 1));
-        }
-        order = with_place(order, c, child);
-        above[depth] = l;
-        depth += 1;
-        l = child.matches;
     }
-    ended(order, Route::Lost)
+    ended(order, missed)
+}
+
+// The beginning of a walk, at the root.
+fn begun(wanted: OptionAddress, root: TournamentRow) -> Start
+    ensures { λ r. ⌜ r ≡ begunAt wanted root ⌝ }
+{
+    if !root.used {
+        return Start {
+            order: no_places(),
+            route: Route::Lost,
+            next: Link::End,
+        };
+    }
+    if is_wanted(wanted, root) {
+        return Start {
+            order: no_places(),
+            route: Route::Found(0, 0),
+            next: Link::End,
+        };
+    }
+    let next = root.matches;
+    Start {
+        order: with_place(no_places(), 0, root),
+        route: Route::Lost,
+        next,
+    }
 }
 
 // The end of a walk.
