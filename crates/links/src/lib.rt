@@ -36,20 +36,24 @@ fn links_down(s: SemanticSnapshot) -> Linked
     ensures { λ r. ⌜ r ≡ linksTop (used s) ⌝ }
 {
     let n = s.length as usize;
-    let top = s.levels[0];
-    if !top_links(top) {
-        return Linked::Refused(Refusal::Core(CoreError::LevelsDoNotLink { level: 0 }));
+    if !top_links(s.levels[0]) {
+        return wrong(0);
     }
     let mut i: usize = 1;
     while i < n {
-        let above = s.levels[i - 1];
-        let l = s.levels[i];
-        if !pair_links(above, l) {
-            return Linked::Refused(Refusal::Core(CoreError::LevelsDoNotLink { level: i as u64 }));
+        if !pair_links(s.levels[i - 1], s.levels[i]) {
+            return wrong(i as u64);
         }
         i += 1;
     }
     Linked::Links
+}
+
+// 76 with this level.
+fn wrong(level: u64) -> Linked
+    ensures { λ r. ⌜ r ≡ Linked.Refused (Refusal.Core (CoreError.LevelsDoNotLink level)) ⌝ }
+{
+    Linked::Refused(Refusal::Core(CoreError::LevelsDoNotLink { level }))
 }
 
 // Whether this may be the first level: at level 0, with no parent.

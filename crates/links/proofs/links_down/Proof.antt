@@ -24,9 +24,9 @@ eight c = sym (length-map (c .args .t1 .levels) _) ∙ c .good .0 .1 .1 .0 .1 .0
 
 returns : tie.Need-returns Inv-loop μ-loop
 returns c =
-    let d = c .before in
+    let d = c .before .before in
     let k = eight (d .before .before) in
-    top-wrong _ _ (d .before .before .pre .0) (omega arith) (sym (d .top-links .ensures) ∙ not-true _ (c .if1 .taken))
+    c .wrong .ensures ∙ top-wrong _ _ (d .before .before .pre .0) (omega arith) (sym (d .top-links .ensures) ∙ not-true _ (c .before .if1 .taken))
 
 loop-holds : tie.Need-loop-holds Inv-loop μ-loop
 loop-holds c =
@@ -36,10 +36,11 @@ loop-holds c =
 
 returns-2 : tie.Need-returns-2 Inv-loop μ-loop
 returns-2 c =
-    let d = c .before in
+    let d = c .before .before in
     let l = d .before .before .before .before in
     let k = eight (l .before .before .before .before) in
-    link-wrong _ (l .loop .i) _ _ (l .loop .inv .2) (d .before .before .before .loop-test .taken) (omega arith) (sym (d .pair-links .ensures) ∙ not-true _ (c .if2 .taken))
+    c .wrong2 .ensures
+    ∙ link-wrong _ (l .loop .i) _ _ (l .loop .inv .2) (d .before .before .before .loop-test .taken) (omega arith) (sym (d .pair-links .ensures) ∙ not-true _ (c .before .if2 .taken))
 
 loop-again : tie.Need-loop-again Inv-loop μ-loop
 loop-again c =
@@ -57,6 +58,6 @@ returns-3 c =
 pub links-down-spec : {M : Type 1} → statement M
 links-down-spec =
     tie.close
-    (tie.spec Inv-loop μ-loop (λ c. search needs) (λ c κs. search needs) returns loop-holds (λ c. search needs)
-    (λ c. search needs) (λ c. search needs) (λ c. search needs) (λ c. search needs) (λ c κs. search needs) returns-2
-    (λ c. search needs) (λ c. search needs) loop-again returns-3)
+    (tie.spec Inv-loop μ-loop (λ c. search needs) (λ c κs. search needs) (λ c κs. search needs) returns loop-holds
+    (λ c. search needs) (λ c. search needs) (λ c. search needs) (λ c. search needs) (λ c. search needs) (λ c κs. search needs)
+    (λ c κs. search needs) returns-2 (λ c. search needs) (λ c. search needs) loop-again returns-3)
