@@ -32,7 +32,7 @@ use Rattle.store.specs.Laws.{find-out, find-end, find-here, find-on, find-far, 
 use Rattle.routing.specs.declared.Order.{Order}
 use Rattle.routing.specs.Order.{orderOf, rowIn}
 use Rattle.routing.specs.Laws.{Leads, found-in-order, status-order, clocked-childless}
-use Rattle.sound.specs.Tests.{rowOr}
+use Rattle.row_tests.specs.Tests.{rowOr}
 use Rattle.changes.proofs.Change as Changes
 use Rattle.changes.specs.declared.Change.{Change}
 use Rattle.changes.specs.declared.Change.the-variants.{Kept, Status, Linked}

@@ -17,8 +17,8 @@ use Rattle.record.specs.Record.{readRecord}
 use Rattle.store.specs.declared.Store.{Store}
 use Rattle.store.specs.declared.MatchRow.{MatchRow}
 use Rattle.store.specs.Rows.{setMatch}
-use Rattle.sound.specs.Sound.{soundRows}
-use Rattle.sound.specs.Laws.{Sized}
+use Rattle.row_tests.specs.Sound.{soundRows}
+use Rattle.row_tests.specs.Laws.{Sized}
 use Rattle.changes.specs.declared.Change.{Change}
 use Rattle.changes.specs.declared.Change.the-variants.{Kept, Status, Linked}
 use Rattle.dispute.specs.declared.Applied.{Applied}

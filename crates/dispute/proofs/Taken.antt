@@ -12,7 +12,7 @@ use Rattle.record.specs.declared.RecordRead.{RecordRead}
 use Rattle.record.specs.declared.RecordRead.the-variants as read
 use Rattle.record.specs.Record.{readRecord}
 use Rattle.store.specs.declared.Store.{Store}
-use Rattle.sound.specs.Laws.{Sized}
+use Rattle.row_tests.specs.Laws.{Sized}
 use Rattle.changes.specs.declared.Change.{Change}
 use Rattle.changes.specs.Rules.{changeOf}
 use Rattle.changes.specs.Within.{Within}

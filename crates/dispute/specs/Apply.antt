@@ -8,7 +8,7 @@ use Rattle.domain.specs.declared.refusal.Refusal.{Refusal}
 use Rattle.domain.specs.declared.refusal.Refusal.the-variants.{Core}
 use Rattle.domain.specs.declared.refusal.CoreError.the-variants.{StoreUnsound}
 use Rattle.store.specs.declared.Store.{Store}
-use Rattle.sound.specs.Sound.{soundRows}
+use Rattle.row_tests.specs.Sound.{soundRows}
 use Rattle.changes.specs.declared.Change.{Change}
 use Rattle.changes.specs.declared.Change.the-variants.{Kept, Status, Linked}
 use Rattle.changes.specs.declared.Links.{Links}

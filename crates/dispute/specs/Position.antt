@@ -26,7 +26,7 @@ use Rattle.store.specs.declared.MatchStatus.the-variants.{Free, Clocked, Leaf, 
 use Rattle.store.specs.Rows.{matchAt, commitmentAt}
 use Rattle.store.specs.Chain.{commitmentByRoot, matchById}
 use Rattle.store.specs.Find.{routeRows}
-use Rattle.sound.specs.Sound.{soundRows}
+use Rattle.row_tests.specs.Sound.{soundRows}
 use Rattle.dispute.specs.declared.Match.{Match}
 use Rattle.dispute.specs.declared.CommitmentPosition.{CommitmentPosition}
 use Rattle.dispute.specs.declared.CommitmentPosition.the-variants.{NotJoined, Candidate, Engaged, Eliminated}

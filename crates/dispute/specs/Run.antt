@@ -13,7 +13,7 @@ use Rattle.record.specs.declared.RecordRead.{RecordRead}
 use Rattle.record.specs.declared.RecordRead.the-variants as read
 use Rattle.record.specs.Record.{readRecord}
 use Rattle.store.specs.declared.Store.{Store}
-use Rattle.sound.specs.Sound.{soundRows}
+use Rattle.row_tests.specs.Sound.{soundRows}
 use Rattle.dispute.specs.declared.Answer.{Answer}
 use Rattle.dispute.specs.declared.Answer.the-variants as answer
 use Rattle.dispute.specs.declared.Applied.{Applied}

@@ -23,8 +23,8 @@ use Rattle.store.specs.declared.MatchStatus.{MatchStatus}
 use Rattle.store.specs.declared.MatchStatus.the-variants.{Clocked, Leaf}
 use Rattle.routing.specs.declared.Order.{Order}
 use Rattle.routing.specs.Order.{rowIn}
-use Rattle.sound.specs.Sound.{soundRows}
-use Rattle.sound.specs.Laws.{Sized}
+use Rattle.row_tests.specs.Sound.{soundRows}
+use Rattle.row_tests.specs.Laws.{Sized}
 use Rattle.changes.specs.declared.Change.{Change}
 use Rattle.changes.specs.declared.Change.the-variants.{Kept, Status, Linked}
 use Rattle.changes.specs.Rules.{changeOf}

@@ -189,7 +189,7 @@ fn clock_run(mut s: Store, bytes: &[u8], numbers: &mut [u32], from: usize) -> Ra
         let mut found = Seen::Nothing;
         let mut k: usize = 128;
         while k > 0 {
-            let j = sound::row_of(l, 128);
+            let j = row_tests::row_of(l, 128);
             if j >= 128 {
                 break;
             }

@@ -14,7 +14,7 @@ use Rattle.domain.specs.declared.refusal.Refusal.the-variants.{Core}
 use Rattle.domain.specs.declared.refusal.CoreError.the-variants.{StoreUnsound, UnknownTournament, StandingTwice, TooManyStandings}
 use Rattle.store.specs.declared.Store.{Store}
 use Rattle.store.specs.Rows.{usedTournament}
-use Rattle.sound.specs.Sound.{soundRows}
+use Rattle.row_tests.specs.Sound.{soundRows}
 use Rattle.gc_walk.specs.declared.Seen.{Seen}
 use Rattle.gc_walk.specs.declared.Outline.{Outline}
 use Rattle.gc_walk.specs.declared.Met.{Met}

@@ -25,7 +25,7 @@ use Rattle.store.specs.declared.MatchRow.{MatchRow}
 use Rattle.store.specs.declared.MatchStatus.{MatchStatus}
 use Rattle.store.specs.declared.MatchStatus.the-variants.{Free, Clocked, Leaf, Inner, Resolved}
 use Rattle.store.specs.Rows.{tournamentAt, matchAt, usedTournament}
-use Rattle.sound.specs.Sound.{soundRows}
+use Rattle.row_tests.specs.Sound.{soundRows}
 use Rattle.gc_planner.specs.declared.StandingRow.{StandingRow}
 use Rattle.gc_planner.specs.declared.Planned.{Planned}
 use Rattle.gc_planner.specs.declared.Planned.the-variants.{Due, Nothing, Refused}

@@ -25,7 +25,7 @@ use Rattle.store.specs.Rows.{matchAt, commitmentAt}
 use Rattle.store.specs.Scan.{tournamentsUsed, matchesUsed, commitmentsUsed}
 use Rattle.store.specs.Chain.{commitmentByRoot, matchById}
 use Rattle.store.specs.Find.{routeRows}
-use Rattle.sound.specs.Sound.{soundRows}
+use Rattle.row_tests.specs.Sound.{soundRows}
 use Rattle.dispute.specs.declared.Match.{Match}
 use Rattle.dispute.specs.declared.CommitmentPosition.the-variants.{NotJoined, Candidate, Eliminated}
 use Rattle.dispute.specs.declared.Positioned.the-variants as positioned

@@ -15,7 +15,7 @@ use Rattle.store.specs.Rows.{tournamentAt, matchAt}
 use Rattle.store.specs.Scan.{tournamentsUsed, matchesUsed, commitmentsUsed}
 use Rattle.store.specs.Chain.{commitmentByRoot}
 use Rattle.store.specs.Find.{routeRows}
-use Rattle.sound.specs.Sound.{soundRows}
+use Rattle.row_tests.specs.Sound.{soundRows}
 use Rattle.dispute.specs.declared.MatchFound.{MatchFound}
 use Rattle.dispute.specs.declared.MatchFound.the-variants as found
 use Rattle.dispute.specs.Position.{matchIn, forCommitment, asked}

@@ -10,7 +10,7 @@ use Rattle.store.specs.declared.MatchRow.{MatchRow}
 use Rattle.store.specs.declared.TournamentRow.{TournamentRow}
 use Rattle.store.specs.Rows.{tournamentAt, matchAt, clearMatch}
 use Rattle.store.specs.Laws.{far-tournament, far-match}
-use Rattle.sound.specs.Tests.{rowOr}
+use Rattle.row_tests.specs.Tests.{rowOr}
 use Rattle.standing_requests.specs.declared.StandingRequest.{StandingRequest}
 use Rattle.standing_requests.specs.Requests.{requestOf, requestAt, clearRequest}
 

@@ -11,7 +11,7 @@ use Rattle.store.specs.declared.Store.{Store}
 use Rattle.store.specs.Rows.{usedTournament}
 use Rattle.store.specs.Find.{Place, places}
 use Rattle.routing.specs.Order.{inRows, listed, orderOf}
-use Rattle.sound.specs.Sound.{soundRows}
+use Rattle.row_tests.specs.Sound.{soundRows}
 use Rattle.standing_requests.specs.declared.Collected.the-variants as collected
 use Rattle.standing_requests.specs.Requests.{requestAt, requests, clearRequest, handed, refusedFor, requestsOf, requestsIn}
 use Rattle.standing_requests.proofs.Gathered.{far-request}

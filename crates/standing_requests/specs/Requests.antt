@@ -19,8 +19,8 @@ use Rattle.store.specs.Rows.{tournamentAt, matchAt, usedTournament, clearTourna
 use Rattle.store.specs.Find.{places}
 use Rattle.routing.specs.declared.Order.{Order}
 use Rattle.routing.specs.Order.{inRows}
-use Rattle.sound.specs.Sound.{soundRows}
-use Rattle.sound.specs.Tests.{rowOr}
+use Rattle.row_tests.specs.Sound.{soundRows}
+use Rattle.row_tests.specs.Tests.{rowOr}
 use Rattle.standing_requests.specs.declared.StandingRequest.{StandingRequest}
 use Rattle.standing_requests.specs.declared.StandingRequests.{StandingRequests}
 use Rattle.standing_requests.specs.declared.Collected.the-variants as collected

@@ -63,7 +63,7 @@ fn collect_standing_requests(s: Store, order: Order) -> StandingRequests
         if t < 32 {
             let row = s.tournaments[t];
             let parent = row.parent;
-            let j = sound::row_of(parent, 128);
+            let j = row_tests::row_of(parent, 128);
             if j < 128 {
                 let above = s.matches[j];
                 requests[k] = request(row, above);

@@ -16,7 +16,7 @@ use Rattle.store.specs.declared.Link.{Link}
 use Rattle.store.specs.declared.Link.the-variants.{End, At}
 use Rattle.store.specs.Rows.{matchAt, usedTournament}
 use Rattle.store.specs.Find.{Place}
-use Rattle.sound.specs.Tests.{rowOr}
+use Rattle.row_tests.specs.Tests.{rowOr}
 use Rattle.standing_requests.specs.declared.StandingRequest.{StandingRequest}
 use Rattle.standing_requests.specs.Requests.{parentMatch, requestOf, requestAt, requests, handed, refusedFor, requestsOf}
 use Rattle.told.specs.Tree.{Tournament, Tournament.tournament, Matches, Matches.empty, Matches.created, Status, Status.Clocked, Status.Leaf, Status.Inner, Status.Resolved, Kind.tournaments, countT, countM, countS, collectStandingRequests, collectIn, collectUnder}

@@ -21,8 +21,8 @@ use Rattle.store.specs.declared.MatchStatus.the-variants.{Free, Clocked, Leaf, 
 use Rattle.store.specs.Rows.{tournamentAt, matchAt, commitmentAt, freeStatus, clockedStatus, sameLink, usedTournament, usedMatch, usedCommitment}
 use Rattle.store.specs.Chain as chain
 use Rattle.store.specs.Chain.{nextMatch, nextCommitment}
-use Rattle.sound.specs.Tests as test
-use Rattle.sound.specs.Sound.{meets, commitmentIn, matchIn, laterOf, latestFrom, joinedIn}
+use Rattle.row_tests.specs.Tests as test
+use Rattle.row_tests.specs.Sound.{meets, commitmentIn, matchIn, laterOf, latestFrom, joinedIn}
 use Rattle.told.specs.Tree.{Commitment, one, hasRoot, Kind.matches, Kind.commitments, nestedT, nestedM, nestedS, isClocked}
 use Rattle.told.specs.Held.{read, Com, Tour, Tour.tour, Ms, Ms.nil, Ms.cons, St, St.clocked, St.leaf, St.inner, St.resolved, plainC, plainT, plainM, plainS, rowT, rowS, headC, headM, orLink, lastM, HoldsC, HoldsT, HoldsM, HoldsS}
 use Rattle.told.specs.Heap.{never}

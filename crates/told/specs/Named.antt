@@ -18,7 +18,7 @@ use Rattle.store.specs.declared.MatchStatus.the-variants.{Free, Clocked, Leaf, 
 use Rattle.store.specs.Rows.{clearTournament, clearMatch, clearCommitment, tournamentAt, matchAt, commitmentAt, freeStatus, sameLink, usedTournament, usedMatch, usedCommitment}
 use Rattle.store.specs.Chain.{nextMatch, nextCommitment}
 use Rattle.store.specs.Find.{childRow}
-use Rattle.sound.specs.Tests.{descriptorOk}
+use Rattle.row_tests.specs.Tests.{descriptorOk}
 use Rattle.told.specs.Tree.{one, Kind, Kind.tournaments, Kind.matches, Kind.commitments}
 use Rattle.told.specs.Held.{Ref, ref, tref, mref, cref, clear, isFree, read, Com, Tour, Tour.tour, Ms, Ms.nil, Ms.cons, St, St.clocked, St.leaf, St.inner, St.resolved, plainT, is, occC, occT, occM, occS, rowT, rowS, headC, headM, HoldsC, HoldsT, HoldsM, HoldsS, Rep}
 use Rattle.told.specs.Heap.{never, zero?, is-self, same?, in-range, usedT}

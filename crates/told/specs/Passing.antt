@@ -25,9 +25,9 @@ use Rattle.store.specs.Rows.{tournamentAt, matchAt, commitmentAt, freeStatus, c
 use Rattle.store.specs.Chain as chain
 use Rattle.store.specs.Chain.{nextMatch, nextCommitment}
 use Rattle.store.specs.Find.{childRow}
-use Rattle.sound.specs.Tests as test
-use Rattle.sound.specs.Tests.{sameLatest}
-use Rattle.sound.specs.Sound.{meets, runs, rises, risesBy, fitsRow, tournamentRises, commitmentIn, matchIn, chained, commitmentReached, laterOf, latestFrom, commitmentLatest, rowStands, matchFits, joinedIn, matchJoined, matchReached, soundRows}
+use Rattle.row_tests.specs.Tests as test
+use Rattle.row_tests.specs.Tests.{sameLatest}
+use Rattle.row_tests.specs.Sound.{meets, runs, rises, risesBy, fitsRow, tournamentRises, commitmentIn, matchIn, chained, commitmentReached, laterOf, latestFrom, commitmentLatest, rowStands, matchFits, joinedIn, matchJoined, matchReached, soundRows}
 use Rattle.told.specs.Tree.{Commitment, hasRoot, Kind.matches, Kind.commitments, countC, countT, countM, countS, nestedT, nestedM, nestedS, descriptorOf}
 use Rattle.told.specs.Held.{Ref, tref, mref, cref, clear, read, Com, Tour, Tour.tour, Ms, Ms.nil, Ms.cons, St, St.clocked, St.leaf, St.inner, St.resolved, plainC, plainT, plainM, plainS, is, occC, occT, occM, occS, rowT, rowS, headC, headM, orLink, lastM, trow, mrow, HoldsC, HoldsT, HoldsM, HoldsS, Rep}
 use Rattle.told.specs.Heap.{never, zero?, same?, used-st}

@@ -22,7 +22,7 @@ use Rattle.store.specs.declared.Store.{Store}
 use Rattle.store.specs.declared.Link.{Link}
 use Rattle.store.specs.declared.Link.the-variants.{End, At}
 use Rattle.store.specs.Rows.{tournamentAt, matchAt, usedTournament}
-use Rattle.sound.specs.Sound.{soundRows}
+use Rattle.row_tests.specs.Sound.{soundRows}
 use Rattle.gc_planner.specs.declared.StandingRow.{StandingRow}
 use Rattle.gc_planner.specs.declared.GcPlan.{GcPlan}
 use Rattle.gc_planner.specs.Cleanup as rows

@@ -12,7 +12,7 @@ use Rattle.record.specs.declared.RecordRead.the-variants as read
 use Rattle.record.specs.Record.{readRecord}
 use Rattle.store.specs.declared.Store.{Store}
 use Rattle.store.specs.Rows.{clearStore}
-use Rattle.sound.specs.Sound.{soundRows}
+use Rattle.row_tests.specs.Sound.{soundRows}
 use Rattle.dispute.specs.declared.Applied.{Applied}
 use Rattle.dispute.specs.Apply.{accepted, refused, applyRows}
 use Rattle.dispute.specs.Run as run

@@ -25,7 +25,7 @@ use Rattle.store.specs.declared.Store.{Store}
 use Rattle.store.specs.declared.Route.the-variants.{Lost}
 use Rattle.store.specs.Rows.{tournamentAt}
 use Rattle.store.specs.Find.{Place, placesFrom, places, firstWith, routeRows}
-use Rattle.sound.specs.Sound.{soundRows}
+use Rattle.row_tests.specs.Sound.{soundRows}
 use Rattle.dispute.specs.declared.Applied.{Applied}
 use Rattle.dispute.specs.declared.Answer.the-variants as said
 use Rattle.dispute.specs.Rows.{openRows}

@@ -19,9 +19,9 @@ use Rattle.store.specs.declared.MatchStatus.{MatchStatus}
 use Rattle.store.specs.Rows.{clearTournament, clearMatch, clearCommitment, tournamentAt, matchAt, commitmentAt, freeStatus, clockedStatus, sameLink, usedTournament, usedMatch, usedCommitment}
 use Rattle.store.specs.Chain.{nextMatch, nextCommitment}
 use Rattle.store.specs.Find.{childRow}
-use Rattle.sound.specs.Tests as test
-use Rattle.sound.specs.Tests.{isClearTournament, isClearMatch, isClearCommitment}
-use Rattle.sound.specs.Sound.{meets, runs, rises, risesBy, fitsRow, tournamentRises, commitmentIn, matchIn, chained, commitmentReached, latestFrom, commitmentLatest, rowStands, matchFits, childFits, childOrRoot, joinedIn, matchJoined, matchReached, soundRows}
+use Rattle.row_tests.specs.Tests as test
+use Rattle.row_tests.specs.Tests.{isClearTournament, isClearMatch, isClearCommitment}
+use Rattle.row_tests.specs.Sound.{meets, runs, rises, risesBy, fitsRow, tournamentRises, commitmentIn, matchIn, chained, commitmentReached, latestFrom, commitmentLatest, rowStands, matchFits, childFits, childOrRoot, joinedIn, matchJoined, matchReached, soundRows}
 use Rattle.told.specs.Tree.{Kind, Kind.tournaments, Kind.matches, Kind.commitments, limit}
 use Rattle.told.specs.Held.{tref, mref, cref, rowsOf}
 use Rattle.told.specs.Heap.{never, read-out, reach?}

@@ -37,7 +37,7 @@ use Rattle.domain.specs.declared.dispute.EventKind.{EventKind}
 use Rattle.domain.specs.declared.refusal.Refusal.{Refusal}
 use Rattle.domain.specs.declared.refusal.CoreError.the-variants.{UnknownTournament}
 use Rattle.store.specs.declared.Store.{Store}
-use Rattle.sound.specs.Sound.{soundRows}
+use Rattle.row_tests.specs.Sound.{soundRows}
 use Rattle.dispute.specs.declared.Answer.the-variants as said
 use Rattle.dispute.specs.Rows.{openRows}
 use Rattle.dispute.specs.Apply.{applyRows, stepRows}

@@ -27,8 +27,8 @@ use Rattle.store.specs.declared.MatchStatus.{MatchStatus}
 use Rattle.store.specs.declared.MatchStatus.the-variants.{Free, Clocked, Leaf, Inner, Resolved}
 use Rattle.store.specs.Rows.{clearDescriptor, clearTournament, clearMatch, clearCommitment, freeStatus}
 use Rattle.store.specs.Scan.{allAt}
-use Rattle.sound.specs.Tests.{isEnd, sameLatest, leafKind, isZero, isClearDescriptor, isClearTournament, isClearMatch, isClearCommitment}
-use Rattle.sound.specs.Sound.{meets, runs}
+use Rattle.row_tests.specs.Tests.{isEnd, sameLatest, leafKind, isZero, isClearDescriptor, isClearTournament, isClearMatch, isClearCommitment}
+use Rattle.row_tests.specs.Sound.{meets, runs}
 use Rattle.told.specs.Tree.{one}
 use Rattle.told.specs.Heap.{never, zero?}
 use Rattle.told.specs.Room.{eq?}

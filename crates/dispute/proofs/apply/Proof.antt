@@ -5,7 +5,7 @@ use mathlib.Core.Bool.{true}
 use borrow.Author.Tests.{not-true, not-false}
 use Rattle.domain.specs.declared.dispute.Event.{Event}
 use Rattle.store.specs.declared.Store.{Store}
-use Rattle.sound.specs.Laws.{sized}
+use Rattle.row_tests.specs.Laws.{sized}
 use Rattle.changes.specs.declared.Change.the-variants.{Status, Linked}
 use Rattle.changes.specs.Rules.{changeOf}
 use Rattle.changes.specs.Within.{Within}

@@ -14,7 +14,7 @@ use Rattle.store.specs.declared.Store.{Store}
 use Rattle.store.specs.declared.MatchStatus.{MatchStatus}
 use Rattle.store.specs.Rows.{matchAt, setMatch, withStatus, clockedStatus}
 use Rattle.store.specs.Chain.{matchById}
-use Rattle.sound.specs.Laws.{Sized, sized, row-at}
+use Rattle.row_tests.specs.Laws.{Sized, sized, row-at}
 use Rattle.routing.specs.declared.Order.{Order}
 use Rattle.routing.specs.Order.{orderOf}
 use Rattle.changes.specs.declared.Change.{Change}

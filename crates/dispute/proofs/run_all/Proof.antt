@@ -8,7 +8,7 @@ use mathlib.Core.List.{List}
 use lib.ListN.{length, take, drop, set, length-set}
 use Rattle.store.specs.declared.Store.{Store}
 use Rattle.store.specs.Rows.{matchAt, setMatch, withStatus}
-use Rattle.sound.specs.Laws.{Sized, sized}
+use Rattle.row_tests.specs.Laws.{Sized, sized}
 use Rattle.changes.specs.declared.Change.{Change}
 use Rattle.changes.specs.Within.{Within}
 use Rattle.dispute.specs.Apply.{performed}

@@ -10,8 +10,8 @@ use Rattle.store.specs.Scan.{allAt}
 use Rattle.store.specs.Chain.{nextCommitment}
 use Rattle.store.specs.Laws.{all-end, all-on, all-not}
 use Rattle.store.specs.declared.Link.the-variants.{End}
-use Rattle.sound.specs.Sound.{commitmentsChained, commitmentIn, runs}
-use Rattle.sound.specs.Laws.{Sized, sized, row-at, told-not, told-so, runs-not, runs-on, runs-stop, past-commitment-in}
+use Rattle.row_tests.specs.Sound.{commitmentsChained, commitmentIn, runs}
+use Rattle.row_tests.specs.Laws.{Sized, sized, row-at, told-not, told-so, runs-not, runs-on, runs-stop, past-commitment-in}
 use Rattle.sound.proofs.commitments_chained.Statement.{statement}
 use Rattle.sound.proofs.commitments_chained.Tie as tie
 

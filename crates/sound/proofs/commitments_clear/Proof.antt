@@ -5,8 +5,8 @@ use native.Mathlib.Omega.{arith}
 use mathlib.Core.Path.{_≡_, refl}
 use Rattle.store.specs.Scan.{allAt}
 use Rattle.store.specs.Laws.{all-end, all-on, all-not}
-use Rattle.sound.specs.Sound.{commitmentFitting}
-use Rattle.sound.specs.Laws.{told-not, told-so}
+use Rattle.row_tests.specs.Parts.{commitmentFitting}
+use Rattle.row_tests.specs.Laws.{told-not, told-so}
 use Rattle.sound.proofs.commitments_clear.Statement.{statement}
 use Rattle.sound.proofs.commitments_clear.Tie as tie
 

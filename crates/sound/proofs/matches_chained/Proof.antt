@@ -11,9 +11,9 @@ use Rattle.store.specs.Rows.{matchAt, sameLink}
 use Rattle.store.specs.Scan.{allAt}
 use Rattle.store.specs.Chain.{nextMatch}
 use Rattle.store.specs.Laws.{all-end, all-on, all-not}
-use Rattle.store.specs.declared.Link.the-variants.{End, At}
-use Rattle.sound.specs.Sound.{matchesChained, matchIn, runs}
-use Rattle.sound.specs.Laws.{Sized, sized, row-at, runs-not, runs-on, runs-stop, past-match-in}
+use Rattle.store.specs.declared.Link.the-variants.{At}
+use Rattle.row_tests.specs.Sound.{matchesChained, matchIn, runs}
+use Rattle.row_tests.specs.Laws.{Sized, sized, row-at, runs-not, runs-on, runs-stop, past-match-in}
 use Rattle.sound.proofs.matches_chained.Statement.{statement}
 use Rattle.sound.proofs.matches_chained.Tie as tie
 

@@ -6,8 +6,8 @@ use mathlib.Core.Path.{_≡_, refl}
 use Rattle.store.specs.Rows.{matchAt}
 use Rattle.store.specs.Scan.{allAt}
 use Rattle.store.specs.Laws.{all-end, all-on, all-not}
-use Rattle.sound.specs.Sound.{matchFitting}
-use Rattle.sound.specs.Laws.{Sized, sized, told-not, told-so, child-far, fits-child}
+use Rattle.row_tests.specs.Parts.{matchFitting}
+use Rattle.row_tests.specs.Laws.{Sized, sized, told-not, told-so, child-far, fits-child}
 use Rattle.sound.proofs.matches_fit.Statement.{statement}
 use Rattle.sound.proofs.matches_fit.Tie as tie
 

@@ -6,8 +6,8 @@ use native.Mathlib.Omega.{arith}
 use mathlib.Core.Path.{_≡_, refl, _∙_, sym}
 use Rattle.store.specs.Scan.{allAt}
 use Rattle.store.specs.Laws.{all-end, all-on, all-not}
-use Rattle.sound.specs.Sound.{tournamentRises, rises}
-use Rattle.sound.specs.Laws.{Sized, sized, row-at, stands-unfit, stands-free, stands-fit, rises-out, rises-far, rises-top, rises-not, rises-on}
+use Rattle.row_tests.specs.Sound.{tournamentRises, rises}
+use Rattle.row_tests.specs.Laws.{Sized, sized, row-at, stands-unfit, stands-free, stands-fit, rises-out, rises-far, rises-top, rises-not, rises-on}
 use Rattle.sound.proofs.tournaments_rise.Statement.{statement}
 use Rattle.sound.proofs.tournaments_rise.Tie as tie
 
