@@ -6,9 +6,9 @@ use native.Mathlib.Omega.{arith}
 use borrow.Author.Tests.{ltb-true, ltb-false}
 use mathlib.Core.Path.{_≡_, refl, ap, ap₂, _∙_, sym}
 use mathlib.Core.Bool.{Bool, true, false, cond, _&&_, and-eq-true-iff}
-use mathlib.Core.List.{List, [], _∷_, _++_, map}
+use mathlib.Core.List.{List, [], _∷_, map}
 use lib.Dec.{ltb}
-use lib.ListN.{getD, set, length, take, replicate, length-map, length-take, List·getD-append, List·getD-map, List·getD-eq-default}
+use lib.ListN.{getD, set, length, take, replicate, length-map, length-take, List·getD-append, List·getD-map}
 use lib.Seq.{getD-take, map-set-same}
 use Rattle.domain.specs.declared.Address.{Address}
 use Rattle.domain.specs.Values.{sameAddress}

@@ -1,7 +1,7 @@
 -- `begun` answers how a walk begins at the root. Assumes nothing.
 use borrow.Author.Needs.{needs}
 use borrow.Author.Tests.{not-true, not-false}
-use mathlib.Core.Path.{_≡_, ap, _∙_, sym}
+use mathlib.Core.Path.{ap, _∙_, sym}
 use Rattle.store.specs.declared.Link.the-variants.{End}
 use Rattle.store.specs.declared.Route.the-variants.{Lost, Found}
 use Rattle.routing.specs.declared.Order.{Order}

@@ -1,9 +1,9 @@
 -- `find_row` answers the row of the first place with that address. The loop keeps which of the places from k on is the first. Assumes
 -- nothing.
 use borrow.Author.Needs.{needs}
-use Prim.Native.Nat.{_≤_, _-_, min}
+use Prim.Native.Nat.{_-_, min}
 use native.Mathlib.Omega.{arith}
-use mathlib.Core.Path.{_≡_, refl, ap, _∙_, sym}
+use mathlib.Core.Path.{_≡_, ap, _∙_, sym}
 use Rattle.domain.specs.Values.{sameAddress}
 use Rattle.store.specs.Scan.{firstAt}
 use Rattle.store.specs.Laws.{first-end, first-here, first-on}
