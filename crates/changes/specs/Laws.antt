@@ -5,8 +5,7 @@ use Prim.Native.Nat.{ℕ, zero, suc, _+_, _≤_, _<_}
 use native.Mathlib.Omega.{arith}
 use borrow.Author.Tests.{ltb-true, ltb-false}
 use mathlib.Core.Path.{_≡_, refl, ap, sym, _∙_}
-use mathlib.Core.Bool.{Bool, true, false, cond, _&&_, and-eq-true-iff}
-use mathlib.Core.List.{List, [], _∷_}
+use mathlib.Core.Bool.{Bool, true, false, cond}
 use lib.Dec.{eqb, ltb}
 use lib.ListN.{length}
 use Rattle.digest.specs.declared.Digest.{Digest}
@@ -22,12 +21,10 @@ use Rattle.domain.specs.declared.dispute.EventKind.{EventKind}
 use Rattle.domain.specs.declared.dispute.EventKind.the-variants.{CommitmentJoined, MatchCreated, MatchAdvanced, LeafMatchSealed, NewInnerTournament, MatchDeleted}
 use Rattle.domain.specs.declared.dispute.WinnerCommitment.{WinnerCommitment}
 use Rattle.domain.specs.declared.refusal.Refusal.{Refusal}
-use Rattle.domain.specs.Values.{sameAddress}
 use Rattle.geometry.specs.declared.Checked.{Checked}
 use Rattle.geometry.specs.declared.Checked.the-variants as checked
 use Rattle.geometry.specs.Geometry.{checkDescriptor}
 use Rattle.store.specs.declared.Store.{Store}
-use Rattle.store.specs.declared.TournamentRow.{TournamentRow}
 use Rattle.store.specs.declared.MatchRow.{MatchRow}
 use Rattle.store.specs.declared.CommitmentRow.{CommitmentRow}
 use Rattle.store.specs.declared.Link.{Link}
@@ -35,12 +32,13 @@ use Rattle.store.specs.declared.Link.the-variants.{End, At}
 use Rattle.store.specs.declared.Route.{Route}
 use Rattle.store.specs.declared.Route.the-variants.{Lost, Found}
 use Rattle.store.specs.declared.MatchStatus.{MatchStatus}
-use Rattle.store.specs.declared.MatchStatus.the-variants.{Free, Clocked, Leaf, Inner, Resolved}
+use Rattle.store.specs.declared.MatchStatus.the-variants.{Clocked, Leaf}
 use Rattle.store.specs.Rows.{tournamentAt, matchAt, commitmentAt, clockedStatus, freeTournament, freeMatch, freeCommitment}
 use Rattle.store.specs.Scan.{firstAt, lowestTournament, lowestMatch, lowestCommitment}
 use Rattle.store.specs.Chain.{findFrom, nextMatch, nextCommitment, hasRoot, hasId, commitmentByRoot, matchById}
-use Rattle.store.specs.Find.{Place, childIn, pastMatch, placesFrom, places, firstWith, routeRows}
-use Rattle.store.specs.Laws.{far-tournament, far-match, far-commitment}
+use Rattle.store.specs.Find.{routeRows}
+use Rattle.store.specs.Laws.{far-match, far-commitment}
+use Rattle.routing.specs.Laws.{route-below}
 use Rattle.changes.specs.declared.Change.{Change}
 use Rattle.changes.specs.declared.Change.the-variants.{Kept, Status, Linked}
 use Rattle.changes.specs.declared.Links.{Links}
@@ -183,59 +181,6 @@ live-below s t a x i m q = match-below s t x i m (go (matchById s t x) (live-is 
     go End q = let z : _≡_ {A = ℕ} 0 1 = cc in absurd (omega arith)
     go (At j) q = ap At (only (isLive (matchAt s j .status)) j i (MatchAlreadyResolved a x) q)
 
--- ---- routing: a row that is reached is in use
-
-used-below : (s : Store) (c : ℕ) → length (s .tournaments) ≡ 32 → tournamentAt s c .used ≡ true → c < 32
-used-below s c m u = below 32 c (tournamentAt s c .used) u (λ h. ap (λ (r : TournamentRow). r .used) (far-tournament s c m h))
-
-child-below : (s : Store) (d : ℕ) (v : MatchStatus) (c : ℕ) → length (s .tournaments) ≡ 32 → childIn s d v ≡ At c → c < 32
-child-below s d Free c m e = let z : _≡_ {A = ℕ} 0 1 = cc in absurd (omega arith)
-child-below s d (Clocked n) c m e = let z : _≡_ {A = ℕ} 0 1 = cc in absurd (omega arith)
-child-below s d (Leaf n) c m e = let z : _≡_ {A = ℕ} 0 1 = cc in absurd (omega arith)
-child-below s d (Inner i) c m e = go (ltb d 7 && tournamentAt s i .used) refl e
-  where
-    go : (b : Bool) → (ltb d 7 && tournamentAt s i .used) ≡ b → cond b (At i) End ≡ At c → c < 32
-    go true q w =
-        let same : i ≡ c = cc in
-        let h : i < 32 = used-below s i m (and-eq-true-iff (ltb d 7) (tournamentAt s i .used) .0 q .1) in
-        omega arith
-    go false q w = let z : _≡_ {A = ℕ} 0 1 = cc in absurd (omega arith)
-child-below s d (Resolved r w) c m e = let z : _≡_ {A = ℕ} 0 1 = cc in absurd (omega arith)
-
--- the first place of a list whose head is one of the rows
-first-place : (s : Store) (a : Address) (p : Place) (ps : List Place) (t v : ℕ) → p .row < 32
-    → (firstWith s a ps ≡ Found t v → t < 32) → firstWith s a (p ∷ ps) ≡ Found t v → t < 32
-unfolding firstWith
-first-place s a p ps t v h on e = go (sameAddress (tournamentAt s (p .row) .descriptor .address) a) e
-  where
-    go : (b : Bool) → cond b (Found (p .row) (p .depth)) (firstWith s a ps) ≡ Found t v → t < 32
-    go true w = let x : p .row ≡ t = cc in omega arith
-    go false w = on w
-
-module _ (s : Store) (a : Address) (m : length (s .tournaments) ≡ 32) (t v : ℕ) where
-  place-below : (n : ℕ) (l : Link) (ls : List Link) → firstWith s a (placesFrom n s l ls) ≡ Found t v → t < 32
-  unfolding placesFrom firstWith
-  place-below zero l ls e = let z : _≡_ {A = ℕ} 0 1 = cc in absurd (omega arith)
-  place-below (suc n) End [] e = let z : _≡_ {A = ℕ} 0 1 = cc in absurd (omega arith)
-  place-below (suc n) End (l ∷ ls) e = place-below n l ls e
-  place-below (suc n) (At i) ls e =
-      go (childIn s (length ls) (matchAt s i .status)) refl e (place-below n (matchAt s i .next) ls) (λ c. place-below n (tournamentAt s c .matches) (matchAt s i .next ∷ ls))
-    where
-      go : (l : Link) → childIn s (length ls) (matchAt s i .status) ≡ l
-          → firstWith s a (pastMatch (placesFrom n s) s l (matchAt s i .next) ls) ≡ Found t v
-          → (firstWith s a (placesFrom n s (matchAt s i .next) ls) ≡ Found t v → t < 32)
-          → ((c : ℕ) → firstWith s a (placesFrom n s (tournamentAt s c .matches) (matchAt s i .next ∷ ls)) ≡ Found t v → t < 32) → t < 32
-      go End q w on deep = on w
-      go (At c) q w on deep = first-place s a (record { row = c; depth = suc (length ls) }) (placesFrom n s (tournamentAt s c .matches) (matchAt s i .next ∷ ls)) t v (child-below s (length ls) (matchAt s i .status) c m q) (deep c) w
-
-  route-below : routeRows s a ≡ Found t v → t < 32
-  unfolding routeRows places firstWith
-  route-below e = go (tournamentAt s 0 .used) e
-    where
-      go : (b : Bool) → firstWith s a (cond b (record { row = 0; depth = 0 } ∷ placesFrom 160 s (tournamentAt s 0 .matches) []) []) ≡ Found t v → t < 32
-      go true w = first-place s a (record { row = 0; depth = 0 }) (placesFrom 160 s (tournamentAt s 0 .matches) []) t v (omega arith) (place-below 160 (tournamentAt s 0 .matches) []) w
-      go false w = let z : _≡_ {A = ℕ} 0 1 = cc in absurd (omega arith)
-
 -- ---- every row that a change names is one of the store's
 
 opening-within : (d : TournamentDescriptor) → Within (opening d)
@@ -319,7 +264,7 @@ module _ (s : Store) (l : length (s .tournaments) ≡ 32) (m : length (s .matche
     where
       go : (d : Checked) (r : Route) → routeRows s a ≡ r → Within (pass d (routed s a k r))
       go checked.Accepted Lost e = tt
-      go checked.Accepted (Found t v) e = at-within t v (route-below s a l t v e) a k
+      go checked.Accepted (Found t v) e = at-within t v (route-below s a l t v e .0) a k
       go (checked.Refused q) r e = tt
 
 pub change-within : (s : Store) (e : Event) → length (s .tournaments) ≡ 32 → length (s .matches) ≡ 128 → length (s .commitments) ≡ 256 → Within (changeOf s e)
