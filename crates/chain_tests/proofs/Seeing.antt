@@ -2,12 +2,12 @@
 use Prim.Native.Nat.{ℕ, zero, suc, _+_, _-_, _≤_, _<_}
 use native.Mathlib.Omega.{arith}
 use mathlib.Core.Path.{_≡_, refl, ap, _∙_, sym}
-use mathlib.Core.Bool.{Bool, true, false, not, cond, _&&_, and-false}
+use mathlib.Core.Bool.{Bool, true, false, not, cond, _&&_, _||_, and-false}
 use mathlib.Core.List.{List}
 use mathlib.Core.Logic.{inr}
-use lib.Dec.{eqb}
+use lib.Dec.{eqb, leb}
 use lib.ListN.{length, getD}
-use borrow.Author.Tests.{eq-eqb, eqb-true, eqb-false, not-false}
+use borrow.Author.Tests.{eq-eqb, eqb-true, eqb-false, leb-false, not-false}
 use Rattle.digest.specs.declared.Digest.{Digest}
 use Rattle.digest.specs.Digest.{sameDigest}
 use Rattle.digest.specs.Laws.{same-is}
@@ -75,6 +75,18 @@ pub among-met : (rows words : List ℕ) (a b w i : ℕ) (others x : Bool) → (x
 among-met rows words a b w i true x f e =
     record { place = f e .place; low = f e .low; high = f e .high; is = f e .is; before = λ u. untold (sym u) }
 among-met rows words a b w i false x f e = untold e
+
+-- two places that are both before an end
+pub both-before : (p q b : ℕ) → (leb b p || leb b q) ≡ false → (p < b) × (q < b)
+both-before p q b e = (leb-false b p (fst (leb b p) (leb b q) e), leb-false b q (snd (leb b p) (leb b q) e))
+  where
+    fst : (x y : Bool) → (x || y) ≡ false → x ≡ false
+    fst true y e = e
+    fst false y e = refl
+
+    snd : (x y : Bool) → (x || y) ≡ false → y ≡ false
+    snd true y e = untold (sym e)
+    snd false y e = e
 
 same-row : (i j : ℕ) → At i ≡ At j → i ≡ j
 same-row i j e = ap (rowOr 0) e
@@ -213,14 +225,14 @@ module _ (nx heads : ℕ → Link) (n b : ℕ) (starts rows : List ℕ) (w : Gat
 
 -- What the scans tell of a row.
 module _ (s : Store) (r : Joined) (o : JoinedOf s r) where
-  pub commitment-seen : (i w : ℕ) → usedCommitment s i ≡ true → commitmentAt s i .tournament < 32 → w ≡ rootWord s i
-      → FirstIn (r .rows) (r .words) (getD (r .from) (commitmentAt s i .tournament) 0) (getD (r .from) (commitmentAt s i .tournament + 1) 0) w i
+  pub commitment-seen : (i j w : ℕ) → j ≡ i → usedCommitment s i ≡ true → commitmentAt s i .tournament < 32 → w ≡ rootWord s i
+      → FirstIn (r .rows) (r .words) (getD (r .from) (commitmentAt s i .tournament) 0) (getD (r .from) (commitmentAt s i .tournament + 1) 0) w j
       → commitmentMet s i ≡ true
-  commitment-seen i w u h e f =
+  commitment-seen i j w k u h e f =
       commitment-used s i u
       ∙ met-first (nextCommitment s) (joinedAt s) 256 _ (r .from) (r .rows) (o .chains) (commitmentAt s i .tournament) h
       false (λ j. sameDigest (commitmentAt s j .root) (commitmentAt s i .root)) (rootWord s) (r .words) i (o .words)
-      (first-met (r .rows) (r .words) _ _ _ i false (rw e at f)) (λ j g. other-word (commitmentAt s j .root) (commitmentAt s i .root) (g refl))
+      (first-met (r .rows) (r .words) _ _ _ i false (rw (e, k) at f)) (λ j g. other-word (commitmentAt s j .root) (commitmentAt s i .root) (g refl))
 
   -- both commitments of a match, found at p and q
   pub joined-seen : (i p q : ℕ) (x y : Bool) → freeStatus (matchAt s i .status) ≡ false → (h : matchAt s i .tournament < 32)
@@ -245,16 +257,16 @@ module _ (s : Store) (r : Joined) (o : JoinedOf s r) where
       right false y e = untold e
 
 module _ (s : Store) (r : Created) (o : CreatedOf s r) where
-  pub match-seen : (i w : ℕ) (others : Bool) → freeStatus (matchAt s i .status) ≡ false → matchAt s i .tournament < 32 → w ≡ hashWord s i
+  pub match-seen : (i j w : ℕ) (others : Bool) → j ≡ i → freeStatus (matchAt s i .status) ≡ false → matchAt s i .tournament < 32 → w ≡ hashWord s i
       → others ≡ clockedStatus (matchAt s i .status)
-      → MetIn (r .rows) (r .words) (getD (r .from) (matchAt s i .tournament) 0) (getD (r .from) (matchAt s i .tournament + 1) 0) w i others
+      → MetIn (r .rows) (r .words) (getD (r .from) (matchAt s i .tournament) 0) (getD (r .from) (matchAt s i .tournament + 1) 0) w j others
       → matchMet s i ≡ true
-  match-seen i w others u h e k f =
+  match-seen i j w others y u h e k f =
       met-used s i u
       ∙ met-first (nextMatch s) (createdAt s) 128 _ (r .from) (r .rows) (o .chains) (matchAt s i .tournament) h
       (clockedStatus (matchAt s i .status))
       (λ j. not (clockedStatus (matchAt s i .status)) && sameDigest (matchAt s j .«id_hash») (matchAt s i .«id_hash»)) (hashWord s) (r .words) i
-      (o .words) (rw (e, k) at f)
+      (o .words) (rw (e, k, y) at f)
       (λ j g. go (clockedStatus (matchAt s i .status)) _ (λ c. other-word (matchAt s j .«id_hash») (matchAt s i .«id_hash») (g c)))
     where
       go : (c x : Bool) → (c ≡ false → x ≡ false) → (not c && x) ≡ false

@@ -78,6 +78,9 @@ pub record CreatedOf (s : Store) (r : Created) : Type 0 where
   pub ones : Worded (oneWord s) (getD (r .from) 32 0) (r .rows) (r .ones)
   pub twos : Worded (twoWord s) (getD (r .from) 32 0) (r .rows) (r .twos)
 
+abbrev pub createdFrom : Bool → List ℕ → List ℕ → List ℕ → List ℕ → List ℕ → Created
+createdFrom whole from rows words ones twos = record { whole = whole; from = from; rows = rows; words = words; ones = ones; twos = twos }
+
 -- no place from a up to b has the word
 pub record NoneIn (words : List ℕ) (a b w : ℕ) : Type 0 where
   pub none : (q : ℕ) → a ≤ q → q < b → getD words q 0 ≡ w → ⊥

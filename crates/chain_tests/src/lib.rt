@@ -5,13 +5,18 @@
 // A scan of these tells most rows to be right. Where it does not tell it of all, the rows are walked one by one.
 use digest::Digest;
 use domain::OptionDigest;
+use store::CommitmentRow;
+use store::MatchRow;
 use store::Store;
+use store::TournamentRow;
 ghost use Prim.Native.Nat.{_≤_};
 ghost use mathlib.Core.Path.{_≡_};
-ghost use mathlib.Core.Bool.{true};
+ghost use mathlib.Core.Bool.{true, _&&_};
 ghost use lib.ListN.{length};
+ghost use Rattle.domain.specs.declared.OptionDigest.the-variants.{Some};
+ghost use Rattle.row_tests.specs.Tests.{sameLatest};
 ghost use Rattle.row_tests.specs.Parts.{rowsReached};
-ghost use Rattle.chain_tests.specs.Gathered.{wordOf, NoneIn, FirstIn, MetIn, Among, JoinedOf, CreatedOf, CommitmentsRight, MatchesRight};
+ghost use Rattle.chain_tests.specs.Gathered.{wordOf, NoneIn, FirstIn, MetIn, Among, createdFrom, JoinedOf, CreatedOf, CommitmentsRight, MatchesRight};
 
 // The commitments of tournament t: places `from[t]` up to `from[t + 1]`, with their rows and a word of their roots; not `whole` where
 // there are more than rows.
@@ -119,14 +124,7 @@ fn gather_matches(s: Store) -> Created
         let mut j = row_tests::row_of(head, 128);
         while j < 128 {
             if n >= 128 {
-                return Created {
-                    whole: false,
-                    from,
-                    rows,
-                    words,
-                    ones,
-                    twos,
-                };
+                return gathered(false, from, rows, words, ones, twos);
             }
             let row = s.matches[j];
             let id = row.id;
@@ -141,8 +139,22 @@ fn gather_matches(s: Store) -> Created
         t += 1;
         from[t] = n;
     }
+    gathered(true, from, rows, words, ones, twos)
+}
+
+// Matches that are gathered.
+fn gathered(
+    whole: bool,
+    from: [usize; 33],
+    rows: [usize; 128],
+    words: [u64; 128],
+    ones: [u64; 128],
+    twos: [u64; 128],
+) -> Created
+    ensures { λ r. ⌜ r ≡ createdFrom whole from rows words ones twos ⌝ }
+{
     Created {
-        whole: true,
+        whole,
         from,
         rows,
         words,
@@ -159,13 +171,10 @@ fn commitments_seen(s: Store, joined: Joined, created: Created) -> bool
 {
     let rows = joined.rows;
     let words = joined.words;
-    let ones = created.ones;
-    let twos = created.twos;
     let mut n: usize = 0;
     while n < 256 {
-        let i = n;
+        let row = s.commitments[n];
         n += 1;
-        let row = s.commitments[i];
         if !row.used {
             continue;
         }
@@ -173,31 +182,43 @@ fn commitments_seen(s: Store, joined: Joined, created: Created) -> bool
         if t >= 32 {
             return false;
         }
-        let root = row.root;
-        let w = word_of(root);
-        if !is_first(&rows, &words, joined.from[t], joined.from[t + 1], w, i) {
+        let w = word_of(row.root);
+        if !is_first(&rows, &words, joined.from[t], joined.from[t + 1], w, n - 1) {
             return false;
         }
         let a = created.from[t];
         let b = created.from[t + 1];
-        let p = past_last(&twos, past_last(&ones, a, b, w), b, w);
+        let m = past_last(&created.ones, a, b, w);
+        let p = past_last(&created.twos, m, b, w);
         let mut latest = OptionDigest::None;
         if p > a {
-            let j = created.rows[p - 1];
-            let match_ = s.matches[j];
-            if !row_tests::names(match_, root) {
+            let match_ = s.matches[created.rows[p - 1]];
+            if !row_tests::names(match_, row.root) {
                 return false;
             }
-            let id_hash = match_.id_hash;
-            latest = OptionDigest::Some(id_hash);
+            latest = latest_of(match_);
         }
-        let tournament = s.tournaments[t];
-        let kept = row.latest_match;
-        if !(tournament.used & row_tests::same_latest(latest, kept)) {
+        if !keeps(row, s.tournaments[t], latest) {
             return false;
         }
     }
     true
+}
+
+// A match as the latest one of a commitment.
+fn latest_of(match_: MatchRow) -> OptionDigest
+    ensures { λ r. ⌜ r ≡ Some («match_» .«id_hash») ⌝ }
+{
+    let id_hash = match_.id_hash;
+    OptionDigest::Some(id_hash)
+}
+
+// Whether a commitment keeps that latest match, and its tournament is in use.
+fn keeps(row: CommitmentRow, tournament: TournamentRow, latest: OptionDigest) -> bool
+    ensures { λ r. ⌜ r ≡ (tournament .used && sameLatest latest (row .«latest_match»)) ⌝ }
+{
+    let kept = row.latest_match;
+    tournament.used & row_tests::same_latest(latest, kept)
 }
 
 // Whether a scan shows each match in use to be met, with none of the same id hash before it unless it is clocked, and its commitments to
@@ -207,13 +228,10 @@ fn matches_seen(s: Store, joined: Joined, created: Created) -> bool
     ensures { λ r. ⌜ (r ≡ true → MatchesRight s) ⌝ }
 {
     let rows = created.rows;
-    let hashes = created.words;
-    let words = joined.words;
     let mut n: usize = 0;
     while n < 128 {
-        let i = n;
+        let row = s.matches[n];
         n += 1;
-        let row = s.matches[i];
         let status = row.status;
         if status.is_free() {
             continue;
@@ -222,27 +240,18 @@ fn matches_seen(s: Store, joined: Joined, created: Created) -> bool
         if t >= 32 {
             return false;
         }
-        let clocked = status.is_clocked();
-        if !is_met(
-            &rows,
-            &hashes,
-            created.from[t],
-            created.from[t + 1],
-            word_of(row.id_hash),
-            i,
-            clocked,
-        ) {
+        let c = created.from[t];
+        let d = created.from[t + 1];
+        let w = word_of(row.id_hash);
+        if !is_met(&rows, &created.words, c, d, w, n - 1, status.is_clocked()) {
             return false;
         }
         let id = row.id;
         let a = joined.from[t];
         let b = joined.from[t + 1];
-        let p = first(&words, a, b, word_of(id.commitment_one));
-        let q = first(&words, a, b, word_of(id.commitment_two));
-        if p >= b {
-            return false;
-        }
-        if q >= b {
+        let p = first(&joined.words, a, b, word_of(id.commitment_one));
+        let q = first(&joined.words, a, b, word_of(id.commitment_two));
+        if (p >= b) | (q >= b) {
             return false;
         }
         let one = s.commitments[joined.rows[p]];

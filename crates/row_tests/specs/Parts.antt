@@ -1,4 +1,5 @@
--- The soundness test in the parts that the code tests, and that these are the same. Nothing here has to be believed. Assumes nothing.
+-- The soundness test in the parts that the code tests, and laws that these are the same. `soundRows` knows nothing of them: they only say
+-- what the functions beneath `sound` answer. Assumes nothing.
 use Prim.Native.Nat.{ℕ, zero, suc, _+_}
 use mathlib.Core.Path.{_≡_, refl, ap, ap₂, _∙_, sym}
 use mathlib.Core.Bool.{Bool, true, false, not, cond, _&&_, and-true, and-false}

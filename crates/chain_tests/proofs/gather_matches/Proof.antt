@@ -2,10 +2,11 @@
 use borrow.Author.Needs.{needs}
 use Prim.Native.Nat.{_≤_, _-_}
 use native.Mathlib.Omega.{arith}
-use mathlib.Core.Path.{_≡_}
+use mathlib.Core.Path.{_≡_, ap, _∙_, sym, subst⁻¹}
 use lib.ListN.{getD}
 use Rattle.store.specs.Chain.{nextMatch}
-use Rattle.chain_tests.specs.Gathered.{Gathered, Worded, createdAt, hashWord, oneWord, twoWord}
+use Rattle.chain_tests.specs.declared.Created.{Created}
+use Rattle.chain_tests.specs.Gathered.{Gathered, Worded, CreatedOf, createdAt, hashWord, oneWord, twoWord}
 use Rattle.chain_tests.proofs.Filling.{Walked, walk-start, walk-row, gather-start, gather-row, gather-next, starts-at, words-start, word-row, created-whole}
 use Rattle.chain_tests.proofs.Seeing.{untold}
 use Rattle.chain_tests.proofs.gather_matches.Statement.{statement}
@@ -47,7 +48,7 @@ loop2-holds c = (
 )
 
 returns : tie.Need-returns Inv-loop2 μ-loop2 Inv-loop μ-loop
-returns c = λ e. untold e
+returns c = λ e. untold (sym (ap (λ (r : Created). r .whole) (c .gathered .ensures)) ∙ e)
 
 loop2-again : tie.Need-loop2-again Inv-loop2 μ-loop2 Inv-loop μ-loop
 loop2-again c = (
@@ -69,7 +70,9 @@ loop-again c = (
 )
 
 returns-2 : tie.Need-returns-2 Inv-loop2 μ-loop2 Inv-loop μ-loop
-returns-2 c = λ e. created-whole _ _ _ _ (omega (arith, c .before .loop .inv .0, c .loop-test .left)) (c .before .loop .inv .1) (c .before .loop .inv .2) (c .before .loop .inv .3) (c .before .loop .inv .4) (c .before .loop .inv .5)
+returns-2 c =
+    λ e. subst⁻¹ (CreatedOf _) (c .gathered2 .ensures)
+    (created-whole _ _ _ _ (omega (arith, c .before .before .loop .inv .0, c .before .loop-test .left)) (c .before .before .loop .inv .1) (c .before .before .loop .inv .2) (c .before .before .loop .inv .3) (c .before .before .loop .inv .4) (c .before .before .loop .inv .5))
 
 pub gather-matches-spec : {M : Type 1} → statement M
-gather-matches-spec = tie.close (tie.spec Inv-loop2 μ-loop2 Inv-loop μ-loop (λ c κs. search needs) (λ c κs. search needs) (λ c κs. search needs) (λ c κs. search needs) (λ c κs. search needs) (λ c. search needs) (λ c. search needs) loop-holds (λ c. search needs) (λ c. search needs) (λ c κs. search needs) loop2-holds returns (λ c. search needs) (λ c. search needs) (λ c. search needs) (λ c. search needs) (λ c κs. search needs) (λ c. search needs) (λ c. search needs) (λ c κs. search needs) (λ c. search needs) (λ c. search needs) (λ c κs. search needs) (λ c. search needs) (λ c. search needs) (λ c. search needs) (λ c κs. search needs) (λ c. search needs) loop2-again (λ c. search needs) (λ c. search needs) (λ c. search needs) (λ c. search needs) loop-again returns-2)
+gather-matches-spec = tie.close (tie.spec Inv-loop2 μ-loop2 Inv-loop μ-loop (λ c κs. search needs) (λ c κs. search needs) (λ c κs. search needs) (λ c κs. search needs) (λ c κs. search needs) (λ c. search needs) (λ c. search needs) loop-holds (λ c. search needs) (λ c. search needs) (λ c κs. search needs) loop2-holds (λ c κs. search needs) returns (λ c. search needs) (λ c. search needs) (λ c. search needs) (λ c. search needs) (λ c κs. search needs) (λ c. search needs) (λ c. search needs) (λ c κs. search needs) (λ c. search needs) (λ c. search needs) (λ c κs. search needs) (λ c. search needs) (λ c. search needs) (λ c. search needs) (λ c κs. search needs) (λ c. search needs) loop2-again (λ c. search needs) (λ c. search needs) (λ c. search needs) (λ c. search needs) loop-again (λ c κs. search needs) returns-2)
