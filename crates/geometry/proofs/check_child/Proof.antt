@@ -7,15 +7,6 @@ use Rattle.geometry.specs.Geometry.{childRules}
 use Rattle.geometry.proofs.check_child.Statement.{statement}
 use Rattle.geometry.proofs.check_child.Tie as tie
 
-add-if2 : tie.Need-add-if2
-add-if2 c = search needs
-
-add-check-leaf : tie.Need-add-check-leaf
-add-check-leaf c = search needs
-
-check-leaf-requires : tie.Need-check-leaf-requires
-check-leaf-requires c κs = search needs
-
 returns : tie.Need-returns
 unfolding childRules
 returns c =
@@ -31,12 +22,4 @@ unfolding childRules
 returns-3 c = simp (eq-eqb _ _ (c .before .before .if2 .left)) (c .check-leaf .ensures)
 
 pub check-child-spec : {M : Type 1} → statement M
-check-child-spec =
-    tie.close
-    (tie.spec
-    returns
-    add-if2
-    returns-2
-    add-check-leaf
-    check-leaf-requires
-    returns-3)
+check-child-spec = tie.close (tie.spec returns (λ c. search needs) returns-2 (λ c. search needs) (λ c κs. search needs) returns-3)

@@ -8,30 +8,6 @@ use Rattle.geometry.specs.Geometry.{checkDescriptor}
 use Rattle.geometry.proofs.check_descriptor.Statement.{statement}
 use Rattle.geometry.proofs.check_descriptor.Tie as tie
 
-add-if4 : tie.Need-add-if4
-add-if4 c = search needs
-
-out-of-range-requires : tie.Need-out-of-range-requires
-out-of-range-requires c κs = search needs
-
-out-of-range-requires-2 : tie.Need-out-of-range-requires-2
-out-of-range-requires-2 c κs = search needs
-
-out-of-range-requires-3 : tie.Need-out-of-range-requires-3
-out-of-range-requires-3 c κs = search needs
-
-last-offset-requires : tie.Need-last-offset-requires
-last-offset-requires c κs = search needs
-
-checked-add-requires : tie.Need-checked-add-requires
-checked-add-requires c κs = search needs
-
-enum-told : tie.Need-enum-told
-enum-told c = search needs
-
-enum-told-2 : tie.Need-enum-told-2
-enum-told-2 c = search needs
-
 returns : tie.Need-returns
 unfolding checkDescriptor
 returns c = simp (eq-eqb _ _ (c .if1 .taken))
@@ -79,18 +55,5 @@ returns-6 c =
 pub check-descriptor-spec : {M : Type 1} → statement M
 check-descriptor-spec =
     tie.close
-    (tie.spec
-    returns
-    out-of-range-requires
-    returns-2
-    out-of-range-requires-2
-    returns-3
-    add-if4
-    out-of-range-requires-3
-    returns-4
-    last-offset-requires
-    checked-add-requires
-    enum-told
-    enum-told-2
-    returns-5
-    returns-6)
+    (tie.spec returns (λ c κs. search needs) returns-2 (λ c κs. search needs) returns-3 (λ c. search needs) (λ c κs. search needs)
+    returns-4 (λ c κs. search needs) (λ c κs. search needs) (λ c. search needs) (λ c. search needs) returns-5 returns-6)

@@ -14,21 +14,6 @@ use Rattle.geometry.proofs.Laws.{at-least}
 use Rattle.geometry.proofs.check_leaf.Statement.{statement}
 use Rattle.geometry.proofs.check_leaf.Tie as tie
 
-checked-sub-requires : tie.Need-checked-sub-requires
-checked-sub-requires c κs = search needs
-
-enum-told : tie.Need-enum-told
-enum-told c = search needs
-
-enum-known-offset : tie.Need-enum-known-offset
-enum-known-offset c = search needs
-
-low-bits-zero-requires : tie.Need-low-bits-zero-requires
-low-bits-zero-requires c κs = search needs
-
-below-power-requires : tie.Need-below-power-requires
-below-power-requires c κs = search needs
-
 -- the rules that are left where the base is o above the first
 above : (o base first stride span : ℕ) → o + first ≡ base → leafRules base first stride span ≡ refuse (not (eqb (o % 2 ^ stride) 0)) ChildOutsideParentLeaf (refuse (leb (2 ^ span) o) ChildOutsideParentLeaf Accepted)
 unfolding leafRules
@@ -72,13 +57,5 @@ returns-4 c =
 pub check-leaf-spec : {M : Type 1} → statement M
 check-leaf-spec =
     tie.close
-    (tie.spec
-    checked-sub-requires
-    enum-told
-    enum-known-offset
-    low-bits-zero-requires
-    below-power-requires
-    returns
-    returns-2
-    returns-3
-    returns-4)
+    (tie.spec (λ c κs. search needs) (λ c. search needs) (λ c. search needs) (λ c κs. search needs) (λ c κs. search needs) returns
+    returns-2 returns-3 returns-4)

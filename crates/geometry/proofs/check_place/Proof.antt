@@ -12,9 +12,6 @@ use Rattle.geometry.proofs.Laws.{at-least}
 use Rattle.geometry.proofs.check_place.Statement.{statement}
 use Rattle.geometry.proofs.check_place.Tie as tie
 
-below-power-requires : tie.Need-below-power-requires
-below-power-requires c κs = search needs
-
 cycle-is-requires : tie.Need-cycle-is-requires
 unfolding limit
 cycle-is-requires c κs =
@@ -37,11 +34,4 @@ unfolding placeRules
 returns-3 c = simp (outside (c .before), c .if1 .left)
 
 pub check-place-spec : {M : Type 1} → statement M
-check-place-spec =
-    tie.close
-    (tie.spec
-    below-power-requires
-    cycle-is-requires
-    returns
-    returns-2
-    returns-3)
+check-place-spec = tie.close (tie.spec (λ c κs. search needs) cycle-is-requires returns returns-2 returns-3)

@@ -11,21 +11,6 @@ use Rattle.u256.specs.Laws.{Words, fits}
 use Rattle.geometry.proofs.cycle_is.Statement.{statement}
 use Rattle.geometry.proofs.cycle_is.Tie as tie
 
-shift-left-requires : tie.Need-shift-left-requires
-shift-left-requires c κs = search needs
-
-checked-add-requires : tie.Need-checked-add-requires
-checked-add-requires c κs = search needs
-
-enum-known-expected : tie.Need-enum-known-expected
-enum-known-expected c = search needs
-
-equal-requires : tie.Need-equal-requires
-equal-requires c κs = search needs
-
-enum-told : tie.Need-enum-told
-enum-told c = search needs
-
 shifted : (d : tie.After-shift-left) → valueOf (d .shift-left .result) ≡ valueOf (d .before .args .position) * 2 ^ d .before .args .log2-stride
 shifted d = d .shift-left .ensures ∙ mod-eq-of-lt (d .before .pre)
 
@@ -51,11 +36,5 @@ returns-2 c =
 pub cycle-is-spec : {M : Type 1} → statement M
 cycle-is-spec =
     tie.close
-    (tie.spec
-    shift-left-requires
-    checked-add-requires
-    enum-known-expected
-    equal-requires
-    enum-told
-    returns
+    (tie.spec (λ c κs. search needs) (λ c κs. search needs) (λ c. search needs) (λ c κs. search needs) (λ c. search needs) returns
     returns-2)

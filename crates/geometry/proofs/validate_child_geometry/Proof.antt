@@ -6,24 +6,6 @@ use Rattle.geometry.specs.Laws.{spans}
 use Rattle.geometry.proofs.validate_child_geometry.Statement.{statement}
 use Rattle.geometry.proofs.validate_child_geometry.Tie as tie
 
-check-descriptor-requires : tie.Need-check-descriptor-requires
-check-descriptor-requires c κs = search needs
-
-enum-known-e : tie.Need-enum-known-e
-enum-known-e c = search needs
-
-enum-told : tie.Need-enum-told
-enum-told c = search needs
-
-check-descriptor-requires-2 : tie.Need-check-descriptor-requires-2
-check-descriptor-requires-2 c κs = search needs
-
-enum-known-e-2 : tie.Need-enum-known-e-2
-enum-known-e-2 c = search needs
-
-enum-told-2 : tie.Need-enum-told-2
-enum-told-2 c = search needs
-
 check-child-requires : tie.Need-check-child-requires
 check-child-requires c κs =
     let p = c .before .before .before in
@@ -52,14 +34,5 @@ returns-3 c =
 pub validate-child-geometry-spec : {M : Type 1} → statement M
 validate-child-geometry-spec =
     tie.close
-    (tie.spec
-    check-descriptor-requires
-    enum-known-e
-    enum-told
-    check-descriptor-requires-2
-    enum-known-e-2
-    enum-told-2
-    check-child-requires
-    returns
-    returns-2
-    returns-3)
+    (tie.spec (λ c κs. search needs) (λ c. search needs) (λ c. search needs) (λ c κs. search needs) (λ c. search needs)
+    (λ c. search needs) check-child-requires returns returns-2 returns-3)

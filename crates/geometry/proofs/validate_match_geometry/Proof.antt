@@ -6,15 +6,6 @@ use Rattle.geometry.specs.Laws.{spans}
 use Rattle.geometry.proofs.validate_match_geometry.Statement.{statement}
 use Rattle.geometry.proofs.validate_match_geometry.Tie as tie
 
-check-descriptor-requires : tie.Need-check-descriptor-requires
-check-descriptor-requires c κs = search needs
-
-enum-known-e : tie.Need-enum-known-e
-enum-known-e c = search needs
-
-enum-told : tie.Need-enum-told
-enum-told c = search needs
-
 check-state-requires : tie.Need-check-state-requires
 check-state-requires c κs = spans _ (sym (c .enum-told .given .1) ∙ c .before .before .check-descriptor .ensures)
 
@@ -29,10 +20,4 @@ returns-2 c = simp (← c .before .before .before .check-descriptor .ensures, c 
 pub validate-match-geometry-spec : {M : Type 1} → statement M
 validate-match-geometry-spec =
     tie.close
-    (tie.spec
-    check-descriptor-requires
-    enum-known-e
-    enum-told
-    check-state-requires
-    returns
-    returns-2)
+    (tie.spec (λ c κs. search needs) (λ c. search needs) (λ c. search needs) check-state-requires returns returns-2)

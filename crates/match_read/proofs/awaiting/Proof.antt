@@ -4,15 +4,6 @@ use Rattle.match_read.specs.Match.{awaiting}
 use Rattle.match_read.proofs.awaiting.Statement.{statement}
 use Rattle.match_read.proofs.awaiting.Tie as tie
 
-validate-child-geometry-requires : tie.Need-validate-child-geometry-requires
-validate-child-geometry-requires c κs = search needs
-
-enum-known-e : tie.Need-enum-known-e
-enum-known-e c = search needs
-
-enum-told : tie.Need-enum-told
-enum-told c = search needs
-
 returns : tie.Need-returns
 unfolding awaiting
 returns c = simp (← c .before .before .before .validate-child-geometry .ensures, c .before .e .given .1)
@@ -22,5 +13,4 @@ unfolding awaiting
 returns-2 c = simp (← c .before .before .before .validate-child-geometry .ensures, c .before .enum-told .given .1)
 
 pub awaiting-spec : {M : Type 1} → statement M
-awaiting-spec =
-    tie.close (tie.spec validate-child-geometry-requires enum-known-e enum-told returns returns-2)
+awaiting-spec = tie.close (tie.spec (λ c κs. search needs) (λ c. search needs) (λ c. search needs) returns returns-2)

@@ -4,15 +4,6 @@ use Rattle.match_read.specs.Match.{live}
 use Rattle.match_read.proofs.live.Statement.{statement}
 use Rattle.match_read.proofs.live.Tie as tie
 
-validate-match-geometry-requires : tie.Need-validate-match-geometry-requires
-validate-match-geometry-requires c κs = search needs
-
-enum-known-e : tie.Need-enum-known-e
-enum-known-e c = search needs
-
-enum-told : tie.Need-enum-told
-enum-told c = search needs
-
 returns : tie.Need-returns
 unfolding live
 returns c = simp (← c .before .before .before .validate-match-geometry .ensures, c .before .e .given .1)
@@ -22,5 +13,4 @@ unfolding live
 returns-2 c = simp (← c .before .before .validate-match-geometry .ensures, c .enum-told .given .1)
 
 pub live-spec : {M : Type 1} → statement M
-live-spec =
-    tie.close (tie.spec validate-match-geometry-requires enum-known-e enum-told returns returns-2)
+live-spec = tie.close (tie.spec (λ c κs. search needs) (λ c. search needs) (λ c. search needs) returns returns-2)

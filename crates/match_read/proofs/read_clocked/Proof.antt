@@ -4,18 +4,6 @@ use Rattle.match_read.specs.Match.{readClocked}
 use Rattle.match_read.proofs.read_clocked.Statement.{statement}
 use Rattle.match_read.proofs.read_clocked.Tie as tie
 
-decode-timeout-requires : tie.Need-decode-timeout-requires
-decode-timeout-requires c κs = search needs
-
-enum-known-e : tie.Need-enum-known-e
-enum-known-e c = search needs
-
-enum-known-timeout : tie.Need-enum-known-timeout
-enum-known-timeout c = search needs
-
-read-phase-requires : tie.Need-read-phase-requires
-read-phase-requires c κs = search needs
-
 returns : tie.Need-returns
 unfolding readClocked
 returns c = simp (← c .before .before .before .decode-timeout .ensures, c .before .e .given .1)
@@ -27,10 +15,4 @@ returns-2 c = simp (← c .before .before .before .before .decode-timeout .ensur
 pub read-clocked-spec : {M : Type 1} → statement M
 read-clocked-spec =
     tie.close
-    (tie.spec
-    decode-timeout-requires
-    enum-known-e
-    enum-known-timeout
-    read-phase-requires
-    returns
-    returns-2)
+    (tie.spec (λ c κs. search needs) (λ c. search needs) (λ c. search needs) (λ c κs. search needs) returns returns-2)

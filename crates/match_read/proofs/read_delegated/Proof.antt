@@ -4,24 +4,6 @@ use Rattle.match_read.specs.Match.{readDelegated}
 use Rattle.match_read.proofs.read_delegated.Statement.{statement}
 use Rattle.match_read.proofs.read_delegated.Tie as tie
 
-check-descriptor-requires : tie.Need-check-descriptor-requires
-check-descriptor-requires c κs = search needs
-
-enum-known-e : tie.Need-enum-known-e
-enum-known-e c = search needs
-
-enum-told : tie.Need-enum-told
-enum-told c = search needs
-
-enum-told-2 : tie.Need-enum-told-2
-enum-told-2 c = search needs
-
-enum-told-3 : tie.Need-enum-told-3
-enum-told-3 c = search needs
-
-awaiting-requires : tie.Need-awaiting-requires
-awaiting-requires c κs = search needs
-
 returns : tie.Need-returns
 unfolding readDelegated
 returns c = simp (← c .before .before .before .check-descriptor .ensures, c .before .e .given .1)
@@ -37,13 +19,5 @@ returns-3 c = simp (← c .before .before .before .before .before .check-descrip
 pub read-delegated-spec : {M : Type 1} → statement M
 read-delegated-spec =
     tie.close
-    (tie.spec
-    check-descriptor-requires
-    enum-known-e
-    enum-told
-    enum-told-2
-    enum-told-3
-    awaiting-requires
-    returns
-    returns-2
-    returns-3)
+    (tie.spec (λ c κs. search needs) (λ c. search needs) (λ c. search needs) (λ c. search needs) (λ c. search needs)
+    (λ c κs. search needs) returns returns-2 returns-3)

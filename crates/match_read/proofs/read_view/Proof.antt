@@ -4,18 +4,6 @@ use Rattle.match_read.specs.Match.{readView}
 use Rattle.match_read.proofs.read_view.Statement.{statement}
 use Rattle.match_read.proofs.read_view.Tie as tie
 
-view-of-requires : tie.Need-view-of-requires
-view-of-requires c κs = search needs
-
-enum-known-e : tie.Need-enum-known-e
-enum-known-e c = search needs
-
-enum-known-state : tie.Need-enum-known-state
-enum-known-state c = search needs
-
-live-requires : tie.Need-live-requires
-live-requires c κs = search needs
-
 returns : tie.Need-returns
 unfolding readView
 returns c = simp (← c .before .before .before .view-of .ensures, c .before .e .given .1)
@@ -27,4 +15,4 @@ returns-2 c = simp (← c .before .before .before .before .view-of .ensures, c .
 pub read-view-spec : {M : Type 1} → statement M
 read-view-spec =
     tie.close
-    (tie.spec view-of-requires enum-known-e enum-known-state live-requires returns returns-2)
+    (tie.spec (λ c κs. search needs) (λ c. search needs) (λ c. search needs) (λ c κs. search needs) returns returns-2)

@@ -3,36 +3,6 @@ use borrow.Author.Needs.{needs}
 use Rattle.match_read.proofs.validate_event_phase.Statement.{statement}
 use Rattle.match_read.proofs.validate_event_phase.Tie as tie
 
-enum-told : tie.Need-enum-told
-enum-told c = search needs
-
-clocked-in-requires : tie.Need-clocked-in-requires
-clocked-in-requires c κs = search needs
-
-phase-fits-requires : tie.Need-phase-fits-requires
-phase-fits-requires c κs = search needs
-
-enum-told-2 : tie.Need-enum-told-2
-enum-told-2 c = search needs
-
-leaf-in-requires : tie.Need-leaf-in-requires
-leaf-in-requires c κs = search needs
-
-phase-fits-requires-2 : tie.Need-phase-fits-requires-2
-phase-fits-requires-2 c κs = search needs
-
-enum-known-status : tie.Need-enum-known-status
-enum-known-status c = search needs
-
-delegated-requires : tie.Need-delegated-requires
-delegated-requires c κs = search needs
-
-enum-told-3 : tie.Need-enum-told-3
-enum-told-3 c = search needs
-
-resolved-requires : tie.Need-resolved-requires
-resolved-requires c κs = search needs
-
 returns : tie.Need-returns
 returns c = simp (c .before .before .enum-told .given .1, ← c .before .clocked-in .ensures) (c .phase-fits .ensures)
 
@@ -48,18 +18,6 @@ returns-4 c = simp (c .before .enum-told3 .given .1, c .resolved .ensures)
 pub validate-event-phase-spec : {M : Type 1} → statement M
 validate-event-phase-spec =
     tie.close
-    (tie.spec
-    enum-told
-    clocked-in-requires
-    phase-fits-requires
-    enum-told-2
-    leaf-in-requires
-    phase-fits-requires-2
-    enum-known-status
-    delegated-requires
-    enum-told-3
-    resolved-requires
-    returns
-    returns-2
-    returns-3
-    returns-4)
+    (tie.spec (λ c. search needs) (λ c κs. search needs) (λ c κs. search needs) (λ c. search needs) (λ c κs. search needs)
+    (λ c κs. search needs) (λ c. search needs) (λ c κs. search needs) (λ c. search needs) (λ c κs. search needs) returns
+    returns-2 returns-3 returns-4)

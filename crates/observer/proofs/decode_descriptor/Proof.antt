@@ -4,18 +4,6 @@ use Rattle.observer.specs.Views.{decodeDescriptor}
 use Rattle.observer.proofs.decode_descriptor.Statement.{statement}
 use Rattle.observer.proofs.decode_descriptor.Tie as tie
 
-decode-tournament-kind-requires : tie.Need-decode-tournament-kind-requires
-decode-tournament-kind-requires c κs = search needs
-
-enum-known-e : tie.Need-enum-known-e
-enum-known-e c = search needs
-
-enum-known-kind : tie.Need-enum-known-kind
-enum-known-kind c = search needs
-
-tested-requires : tie.Need-tested-requires
-tested-requires c κs = search needs
-
 returns : tie.Need-returns
 unfolding decodeDescriptor
 returns c = simp (← c .before .before .before .decode-tournament-kind .ensures, c .before .e .given .1)
@@ -27,10 +15,4 @@ returns-2 c = simp (← c .before .before .before .before .before .before .decod
 pub decode-descriptor-spec : {M : Type 1} → statement M
 decode-descriptor-spec =
     tie.close
-    (tie.spec
-    decode-tournament-kind-requires
-    enum-known-e
-    enum-known-kind
-    tested-requires
-    returns
-    returns-2)
+    (tie.spec (λ c κs. search needs) (λ c. search needs) (λ c. search needs) (λ c κs. search needs) returns returns-2)

@@ -3,12 +3,6 @@ use borrow.Author.Needs.{needs}
 use Rattle.observer.proofs.ready_in.Statement.{statement}
 use Rattle.observer.proofs.ready_in.Tie as tie
 
-enum-told : tie.Need-enum-told
-enum-told c = search needs
-
-enum-told-2 : tie.Need-enum-told-2
-enum-told-2 c = search needs
-
 returns : tie.Need-returns
 returns c = simp (c .enum-told .given .1)
 
@@ -16,4 +10,4 @@ returns-2 : tie.Need-returns-2
 returns-2 c = simp (c .enum-told2 .given .1)
 
 pub ready-in-spec : {M : Type 1} → statement M
-ready-in-spec = tie.close (tie.spec enum-told enum-told-2 returns returns-2)
+ready-in-spec = tie.close (tie.spec (λ c. search needs) (λ c. search needs) returns returns-2)

@@ -5,12 +5,6 @@ use borrow.Author.Needs.{needs}
 use Rattle.observer.proofs.shows.Statement.{statement}
 use Rattle.observer.proofs.shows.Tie as tie
 
-phase-number-requires : tie.Need-phase-number-requires
-phase-number-requires c κs = search needs
-
-phase-number-requires-2 : tie.Need-phase-number-requires-2
-phase-number-requires-2 c κs = search needs
-
 returns : tie.Need-returns
 returns c = simp (eq-eqb _ _ (sym (c .before .phase-number2 .ensures) ∙ c .if1 .taken ∙ c .before .before .phase-number .ensures))
 
@@ -20,4 +14,4 @@ returns-2 c =
     simp (ne-eqb _ _ (λ e. c .if1 .left (c .before .phase-number2 .ensures ∙ e ∙ sym expected)), expected)
 
 pub shows-spec : {M : Type 1} → statement M
-shows-spec = tie.close (tie.spec phase-number-requires phase-number-requires-2 returns returns-2)
+shows-spec = tie.close (tie.spec (λ c κs. search needs) (λ c κs. search needs) returns returns-2)

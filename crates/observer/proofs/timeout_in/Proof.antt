@@ -6,18 +6,6 @@ use Rattle.observer.specs.Views.{timeoutIn}
 use Rattle.observer.proofs.timeout_in.Statement.{statement}
 use Rattle.observer.proofs.timeout_in.Tie as tie
 
-timeout-read-requires : tie.Need-timeout-read-requires
-timeout-read-requires c κs = search needs
-
-timeout-read-requires-2 : tie.Need-timeout-read-requires-2
-timeout-read-requires-2 c κs = search needs
-
-timeout-read-requires-3 : tie.Need-timeout-read-requires-3
-timeout-read-requires-3 c κs = search needs
-
-timeout-read-requires-4 : tie.Need-timeout-read-requires-4
-timeout-read-requires-4 c κs = search needs
-
 returns : tie.Need-returns
 unfolding timeoutIn named
 returns c = simp (c .before .match .keys1) (c .timeout-read .ensures)
@@ -41,13 +29,5 @@ returns-5 c = unnamed _ _ _ _ (c .match .rest)
 pub timeout-in-spec : {M : Type 1} → statement M
 timeout-in-spec =
     tie.close
-    (tie.spec
-    timeout-read-requires
-    timeout-read-requires-2
-    timeout-read-requires-3
-    timeout-read-requires-4
-    returns
-    returns-2
-    returns-3
-    returns-4
-    returns-5)
+    (tie.spec (λ c κs. search needs) (λ c κs. search needs) (λ c κs. search needs) (λ c κs. search needs) returns returns-2
+    returns-3 returns-4 returns-5)

@@ -4,20 +4,10 @@ use Rattle.u256.proofs.Carries.{sum}
 use Rattle.u256.proofs.add_words.Statement.{statement}
 use Rattle.u256.proofs.add_words.Tie as tie
 
-add-word-requires : tie.Need-add-word-requires
-add-word-requires c κs = search needs
-
-add-word-requires-2 : tie.Need-add-word-requires-2
-add-word-requires-2 c κs = search needs
-
-add-word-requires-3 : tie.Need-add-word-requires-3
-add-word-requires-3 c κs = search needs
-
-add-word-requires-4 : tie.Need-add-word-requires-4
-add-word-requires-4 c κs = search needs
-
 returns : tie.Need-returns
 returns c = sum _ _ _ (c .before .before .before .add-word .ensures .0) (c .before .before .add-word2 .ensures .0) (c .before .add-word3 .ensures .0) (c .add-word4 .ensures .0)
 
 pub add-words-spec : {M : Type 1} → statement M
-add-words-spec = tie.close (tie.spec add-word-requires add-word-requires-2 add-word-requires-3 add-word-requires-4 returns)
+add-words-spec =
+    tie.close
+    (tie.spec (λ c κs. search needs) (λ c κs. search needs) (λ c κs. search needs) (λ c κs. search needs) returns)

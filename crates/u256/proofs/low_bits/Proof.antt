@@ -11,9 +11,6 @@ use Rattle.u256.proofs.low_bits.Tie as tie
 returns : tie.Need-returns
 returns c = whole (c .before .args .w) (c .before .args .bits) (omega arith) (c .if1 .taken)
 
-shl-result : tie.Need-shl-result
-shl-result c = search needs
-
 rem-result : tie.Need-rem-result
 rem-result c = omega (arith, bit (c .before .args .bits) (c .if1 .left), pow-pos (c .before .args .bits))
 
@@ -21,4 +18,4 @@ returns-2 : tie.Need-returns-2
 returns-2 c = ap (λ (n : ℕ). c .before .args .w % n) (bit (c .before .args .bits) (c .if1 .left))
 
 pub low-bits-spec : {M : Type 1} → statement M
-low-bits-spec = tie.close (tie.spec returns shl-result rem-result returns-2)
+low-bits-spec = tie.close (tie.spec returns (λ c. search needs) rem-result returns-2)
