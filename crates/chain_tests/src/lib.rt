@@ -338,31 +338,35 @@ fn word_of(d: Digest) -> u64
     d.w0 ^ d.w3
 }
 
-// Arrays to be filled.
+// Where tournaments start, to be filled.
 fn no_starts() -> [usize; 33]
     ensures { λ r. ⌜ length r ≡ 33 ⌝ }
 {
     [0; 33]
 }
 
+// Rows of commitments, to be filled.
 fn no_commitments() -> [usize; 256]
     ensures { λ r. ⌜ length r ≡ 256 ⌝ }
 {
     [0; 256]
 }
 
+// Words of roots, to be filled.
 fn no_roots() -> [u64; 256]
     ensures { λ r. ⌜ length r ≡ 256 ⌝ }
 {
     [0; 256]
 }
 
+// Rows of matches, to be filled.
 fn no_matches() -> [usize; 128]
     ensures { λ r. ⌜ length r ≡ 128 ⌝ }
 {
     [0; 128]
 }
 
+// Words of matches, to be filled.
 fn no_words() -> [u64; 128]
     ensures { λ r. ⌜ length r ≡ 128 ⌝ }
 {
