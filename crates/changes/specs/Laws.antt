@@ -40,7 +40,7 @@ use Rattle.store.specs.Find.{routeRows}
 use Rattle.store.specs.Laws.{far-match, far-commitment}
 use Rattle.routing.specs.Laws.{route-below}
 use Rattle.changes.specs.declared.Change.{Change}
-use Rattle.changes.specs.declared.Change.the-variants.{Kept, Status, Linked}
+use Rattle.changes.specs.declared.Change.the-variants.{Status, Linked}
 use Rattle.changes.specs.declared.Links.{Links}
 use Rattle.changes.specs.declared.Links.the-variants.{Opened, Joined, Created, Delegated, Deleted}
 use Rattle.changes.specs.declared.Row.{Row}

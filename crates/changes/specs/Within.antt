@@ -1,6 +1,6 @@
 -- Every row that a change names is one of the store's: what the function that changes the rows relies on. Assumes nothing: these are
 -- definitions.
-use Prim.Native.Nat.{ℕ, _<_}
+use Prim.Native.Nat.{_<_}
 use Rattle.changes.specs.declared.Change.{Change}
 use Rattle.changes.specs.declared.Change.the-variants.{Kept, Status, Linked}
 use Rattle.changes.specs.declared.Links.{Links}

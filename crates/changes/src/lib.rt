@@ -26,7 +26,7 @@ use store::Store;
 ghost use mathlib.Core.Path.{_≡_};
 ghost use Rattle.store.specs.Chain.{matchById};
 ghost use Rattle.changes.specs.Rules.{unknownCommitment, isLive, joinAt, createAt, innerAt, deleteAt, applyAt, checkKind, emitted, opening, changeOf};
-ghost use Rattle.changes.specs.Seen.{seen, unknownMatch, clockedOf, liveOf, reclocked};
+ghost use Rattle.changes.specs.Seen.{seen, unknownMatch, clockedOf, liveOf, reclocked, firstOf, createdOf};
 
 // What an event does to the store: why it is refused, the status of one match, or rows that are linked anew.
 pub enum Change {
@@ -208,17 +208,63 @@ fn join_at(s: Store, t: usize, a: Address, root: Digest) -> Change
     }
 }
 
-// A match is created between two commitments that have joined, which may be the same.
+// A match is created between two commitments that have joined, which may be the same. All three rows that it needs are looked for in
+// this function, so that the store is copied for it once.
 fn create_at(s: Store, t: usize, a: Address, id: MatchID, eliminable_at: u64) -> Change
     ensures { λ r. ⌜ r ≡ createAt s t a id «eliminable_at» ⌝ }
 {
-    let Link::At(one) = store::commitment_by_root(s, t, id.commitment_one) else {
+    if t >= 32 {
+        return Change::Kept(unknown_commitment(a, id.commitment_one));
+    }
+    let tournament = s.tournaments[t];
+    let mut l = tournament.commitments;
+    let mut one = Link::End;
+    let mut two = Link::End;
+    let mut k: usize = 256;
+    while k > 0 {
+        let i = row_tests::row_of(l, 256);
+        if i >= 256 {
+            break;
+        }
+        let row = s.commitments[i];
+        one = first_of(one, row.has_root(id.commitment_one), i);
+        two = first_of(two, row.has_root(id.commitment_two), i);
+        l = row.next;
+        k -= 1;
+    }
+    let mut free = Link::End;
+    let mut j: usize = 0;
+    while j < 128 {
+        let row = s.matches[j];
+        let status = row.status;
+        if status.is_free() {
+            free = Link::At(j);
+            break;
+        }
+        j += 1;
+    }
+    created(t, a, one, two, free, id, eliminable_at)
+}
+
+// What a creation changes, by the rows that were found for it.
+fn created(
+    t: usize,
+    a: Address,
+    one: Link,
+    two: Link,
+    free: Link,
+    id: MatchID,
+    eliminable_at: u64,
+) -> Change
+    ensures { λ r. ⌜ r ≡ createdOf t a one two free id «eliminable_at» ⌝ }
+{
+    let Link::At(one) = one else {
         return Change::Kept(unknown_commitment(a, id.commitment_one));
     };
-    let Link::At(two) = store::commitment_by_root(s, t, id.commitment_two) else {
+    let Link::At(two) = two else {
         return Change::Kept(unknown_commitment(a, id.commitment_two));
     };
-    let Link::At(j) = store::lowest_free_match(s) else {
+    let Link::At(j) = free else {
         return Change::Kept(Refusal::Core(CoreError::NoMatchRoom { tournament: a }));
     };
     Change::Linked(Links::Created {
@@ -229,6 +275,16 @@ fn create_at(s: Store, t: usize, a: Address, id: MatchID, eliminable_at: u64) ->
         id,
         eliminable_at,
     })
+}
+
+// The row that was found before, or else row i where it fits.
+fn first_of(found: Link, fits: bool, i: usize) -> Link
+    ensures { λ r. ⌜ r ≡ firstOf found fits i ⌝ }
+{
+    match found {
+        Link::At(j) => Link::At(j),
+        Link::End => { if fits { Link::At(i) } else { Link::End } }
+    }
 }
 
 // Only a clocked match may delegate: replacing a live child would silently discard its state.

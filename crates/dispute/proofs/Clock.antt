@@ -12,7 +12,6 @@ use lib.Dec.{ltb}
 use lib.ListN.{length}
 use Rattle.digest.specs.declared.Digest.{Digest}
 use Rattle.domain.specs.declared.Address.{Address}
-use Rattle.domain.specs.declared.dispute.Event.{Event}
 use Rattle.domain.specs.declared.dispute.Event.the-variants.{Opening, Emitted}
 use Rattle.domain.specs.declared.dispute.EventKind.{EventKind}
 use Rattle.domain.specs.declared.dispute.EventKind.the-variants.{CommitmentJoined, MatchCreated, MatchAdvanced, LeafMatchSealed, NewInnerTournament, MatchDeleted}

@@ -18,27 +18,23 @@ use Rattle.changes.specs.Rules.{changeOf}
 use Rattle.changes.specs.Within.{Within}
 use Rattle.changes.specs.Laws.{change-within}
 use Rattle.dispute.specs.declared.Applied.{Applied}
-use Rattle.dispute.specs.Apply.{refused, performed, stepRows, applyRows}
+use Rattle.dispute.specs.Apply.{refused, performed, applyRows}
 use Rattle.dispute.specs.Steps.{takenOver, changeRead, readChange}
 
 pub apply-unsound : (s : Store) (e : Event) → takenOver s e ≡ false → refused s (Core StoreUnsound) ≡ applyRows s e
 apply-unsound s (Opening d) q = let z : _≡_ {A = ℕ} 0 1 = cc in absurd (omega arith)
 apply-unsound s (Emitted a k) q = rw q
 
-apply-taken : (s : Store) (e : Event) → takenOver s e ≡ true → stepRows s e ≡ applyRows s e
-apply-taken s (Opening d) q = refl
-apply-taken s (Emitted a k) q = rw q
+pub apply-taken : (s : Store) (e : Event) → takenOver s e ≡ true → (c : Change) → c ≡ changeOf s e → (o : Applied) → o ≡ performed s c → o ≡ applyRows s e
+apply-taken s e q c m o p = p ∙ ap (performed s) m ∙ go e q
+  where
+    go : (e : Event) → takenOver s e ≡ true → performed s (changeOf s e) ≡ applyRows s e
+    go (Opening d) q = refl
+    go (Emitted a k) q = rw q
 
--- a change that was told apart
-module _ (s : Store) (c r x : Change) (m : r ≡ c) (q : r ≡ x) where
-  pub performed-as : (o : Applied) → o ≡ performed s x → o ≡ performed s c
-  performed-as o p = p ∙ ap (performed s) (sym q ∙ m)
-
-  pub within-as : Within c → Within x
-  within-as w = subst Within (sym m ∙ q) w
-
-pub applied-as : (s : Store) (e : Event) (r x : Change) → r ≡ changeOf s e → r ≡ x → (o : Applied) → takenOver s e ≡ true → o ≡ performed s x → o ≡ applyRows s e
-applied-as s e r x m q o t p = performed-as s (changeOf s e) r x m q o p ∙ apply-taken s e t
+-- the rows of a change that was told apart
+pub within-as : (c r x : Change) → r ≡ c → r ≡ x → Within c → Within x
+within-as c r x m q w = subst Within (sym m ∙ q) w
 
 pub event-within : (s : Store) (e : Event) → Sized s → Within (changeOf s e)
 event-within s e z = change-within s e (z .tournaments) (z .matches) (z .commitments)

@@ -14,7 +14,6 @@ use Rattle.changes.specs.declared.Change.the-variants.{Kept, Status, Linked}
 use Rattle.changes.specs.declared.Links.{Links}
 use Rattle.changes.specs.declared.Links.the-variants.{Opened, Joined, Created, Delegated, Deleted}
 use Rattle.changes.specs.Rules.{opening, emitted, changeOf}
-use Rattle.dispute.specs.declared.Answer.{Answer}
 use Rattle.dispute.specs.declared.Answer.the-variants.{Accepted, Refused}
 use Rattle.dispute.specs.declared.Applied.{Applied}
 use Rattle.dispute.specs.Rows.{openRows, joinRows, createRows, statusRows, innerRows, resolveRows}

@@ -2,7 +2,7 @@
 -- match that is live, engaged, side One if it equals commitment one; resolved with the named winner equal to it, candidate; else
 -- eliminated with the reason". And the lookups of one match. Assumes nothing: these are definitions.
 use Prim.Native.Nat.{ℕ}
-use mathlib.Core.Bool.{Bool, true, false, cond}
+use mathlib.Core.Bool.{cond}
 use Rattle.digest.specs.declared.Digest.{Digest}
 use Rattle.digest.specs.Digest.{sameDigest}
 use Rattle.domain.specs.declared.Address.{Address}
@@ -12,7 +12,6 @@ use Rattle.domain.specs.declared.MatchSide.the-variants as side
 use Rattle.domain.specs.declared.OptionDigest.{OptionDigest}
 use Rattle.domain.specs.declared.OptionDigest.the-variants as digest
 use Rattle.domain.specs.declared.OptionAddress.the-variants as address
-use Rattle.domain.specs.declared.refusal.Refusal.{Refusal}
 use Rattle.domain.specs.declared.refusal.Refusal.the-variants.{Core}
 use Rattle.domain.specs.declared.refusal.CoreError.the-variants.{StoreUnsound, UnknownTournament}
 use Rattle.domain.specs.Values.{preserved}

@@ -9,7 +9,6 @@ use Rattle.domain.specs.declared.dispute.WinnerCommitment.{WinnerCommitment}
 use Rattle.domain.specs.declared.OptionDigest.the-variants as digest
 use Rattle.domain.specs.Values.{idHash}
 use Rattle.store.specs.declared.Store.{Store}
-use Rattle.store.specs.declared.MatchRow.{MatchRow}
 use Rattle.store.specs.declared.Link.{Link}
 use Rattle.store.specs.declared.Link.the-variants.{End, At}
 use Rattle.store.specs.declared.MatchStatus.{MatchStatus}

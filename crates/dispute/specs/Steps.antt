@@ -1,5 +1,6 @@
--- What only the code of this crate hands on: whether an event may be taken, what a record changes, and the number of its answer. No
--- public contract cites these. Assumes nothing: these are definitions.
+-- What only the code of this crate hands on: whether an event may be taken, what a record changes, and the number of its answer; what a
+-- record asks for where the routing order is known; and how far a run has come, as a relation between the store and the numbers before
+-- and after. No public contract cites these. Assumes nothing: these are definitions.
 use Prim.Native.Nat.{ℕ, _≤_}
 use mathlib.Core.Bool.{Bool, true, cond}
 use mathlib.Core.Path.{_≡_}

@@ -28,10 +28,12 @@ use store::Store;
 ghost use mathlib.Core.Path.{_≡_};
 ghost use Prim.Native.Nat.{_*_, _≤_, _<_};
 ghost use lib.ListN.{length};
+ghost use Rattle.domain.specs.declared.refusal.Refusal.the-variants.{Core};
+ghost use Rattle.domain.specs.declared.refusal.CoreError.the-variants.{StoreUnsound};
 ghost use Rattle.record.specs.Record.{readRecord};
-ghost use Rattle.changes.specs.Within.{LinksWithin};
+ghost use Rattle.changes.specs.Within.{LinksWithin, Within};
 ghost use Rattle.dispute.specs.Rows.{openRows, joinRows, createRows, statusRows, innerRows, resolveRows};
-ghost use Rattle.dispute.specs.Apply.{refused, linked, applyRows};
+ghost use Rattle.dispute.specs.Apply.{accepted, refused, linked, performed, applyRows};
 ghost use Rattle.dispute.specs.Run.{wrongLength, runRows, runNumbers};
 ghost use Rattle.dispute.specs.Steps.{takenOver, readChange, changeNumber, askedAt, askedKind, askedRead, After, Went};
 
@@ -102,19 +104,9 @@ pub fn apply(s: Store, e: Event) -> Applied
     ensures { λ r. ⌜ r ≡ applyRows s e ⌝ }
 {
     if !taken_over(s, e) {
-        return refuse(s, Refusal::Core(CoreError::StoreUnsound));
+        return refuse_unsound(s);
     }
-    match changes::change_of(s, e) {
-        Change::Kept(refusal) => refuse(s, refusal),
-        Change::Status(i, status) => Applied {
-            answer: Answer::Accepted,
-            store: status_rows(s, i, status),
-        },
-        Change::Linked(links) => Applied {
-            answer: Answer::Accepted,
-            store: link(s, links),
-        },
-    }
+    perform(s, changes::change_of(s, e))
 }
 
 // A run of records: each is read and its event applied, and its number put into the lent buffer. The store is tested once, since
@@ -124,19 +116,16 @@ pub fn apply_records(s: Store, bytes: &[u8], numbers: &mut [u32]) -> Applied
     ensures { λ _. ⌜ now (numbers .exit) ≡ runNumbers s (now (bytes .entry)) (now (numbers .entry)) ⌝ }
 {
     if !sound::sound(s) {
-        return refuse(s, Refusal::Core(CoreError::StoreUnsound));
+        return refuse_unsound(s);
     }
     let n = numbers.len();
     if bytes.len() % 176 != 0 {
-        return refuse(s, wrong_length(bytes.len()));
+        return refuse_length(s, bytes.len());
     }
     if bytes.len() / 176 != n {
-        return refuse(s, wrong_length(n));
+        return refuse_length(s, n);
     }
-    Applied {
-        answer: Answer::Accepted,
-        store: run_all(s, bytes, numbers),
-    }
+    accept(run_all(s, bytes, numbers))
 }
 
 // The store after a run of whole records, as many as there are numbers.
@@ -313,14 +302,6 @@ fn number_of(change: Change) -> u32
     }
 }
 
-fn wrong_length(length: usize) -> Refusal
-    ensures { λ r. ⌜ r ≡ wrongLength length ⌝ }
-{
-    Refusal::Core(CoreError::WrongLength {
-        length: length as u64,
-    })
-}
-
 // Whether an event may be taken over this store: an opening over any, every other over a sound one.
 fn taken_over(s: Store, e: Event) -> bool
     ensures { λ r. ⌜ r ≡ takenOver s e ⌝ }
@@ -334,6 +315,28 @@ fn taken_over(s: Store, e: Event) -> bool
     }
 }
 
+// The answer to an event that makes this change, and the store after it.
+fn perform(s: Store, change: Change) -> Applied
+    requires { ⌜ Within change ⌝ }
+    ensures { λ r. ⌜ r ≡ performed s change ⌝ }
+{
+    match change {
+        Change::Kept(refusal) => refuse(s, refusal),
+        Change::Status(i, status) => accept(status_rows(s, i, status)),
+        Change::Linked(links) => accept(link(s, links)),
+    }
+}
+
+// An accepted event gives the store after it.
+fn accept(s: Store) -> Applied
+    ensures { λ r. ⌜ r ≡ accepted s ⌝ }
+{
+    Applied {
+        answer: Answer::Accepted,
+        store: s,
+    }
+}
+
 // A refused event gives back the store that came in.
 fn refuse(s: Store, e: Refusal) -> Applied
     ensures { λ r. ⌜ r ≡ refused s e ⌝ }
@@ -342,6 +345,21 @@ fn refuse(s: Store, e: Refusal) -> Applied
         answer: Answer::Refused(e),
         store: s,
     }
+}
+
+// A store that is not sound takes no event.
+fn refuse_unsound(s: Store) -> Applied
+    ensures { λ r. ⌜ r ≡ refused s (Core StoreUnsound) ⌝ }
+{
+    refuse(s, Refusal::Core(CoreError::StoreUnsound))
+}
+
+// Bytes that are not whole records, or a buffer of another length than there are records.
+fn refuse_length(s: Store, length: usize) -> Applied
+    ensures { λ r. ⌜ r ≡ refused s (wrongLength length) ⌝ }
+{
+    let length = length as u64;
+    refuse(s, Refusal::Core(CoreError::WrongLength { length }))
 }
 
 // The store with rows linked anew.

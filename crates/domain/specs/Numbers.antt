@@ -5,7 +5,6 @@ use mathlib.Core.Path.{_≡_, refl, sym, ap, _∙_}
 use mathlib.Core.Bool.{cond}
 use lib.Dec.{eqb}
 use mathlib.Core.List.{List, [], _∷_, map}
-use Rattle.digest.specs.declared.Digest.{Digest}
 use Rattle.digest.specs.Digest.{zeroDigest}
 use Rattle.domain.specs.Refusals.{numberOf}
 use Rattle.domain.specs.declared.Address.{Address}

@@ -12,7 +12,6 @@ use Rattle.domain.specs.declared.dispute.Event.the-variants.{Opening, Emitted}
 use Rattle.domain.specs.declared.dispute.EventKind.{EventKind}
 use Rattle.domain.specs.declared.dispute.EventKind.the-variants.{CommitmentJoined, MatchCreated, MatchAdvanced, LeafMatchSealed, NewInnerTournament, MatchDeleted}
 use Rattle.domain.specs.declared.refusal.CoreError.the-variants.{BadRecord, WrongLength}
-use Rattle.domain.specs.declared.refusal.Refusal.{Refusal}
 use Rattle.domain.specs.declared.refusal.Refusal.the-variants.{Domain, Core}
 use Rattle.geometry.specs.Geometry as geometry
 use Rattle.geometry.specs.Geometry.{checkDescriptor, childGeometry}

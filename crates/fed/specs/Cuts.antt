@@ -1,5 +1,5 @@
 -- Lemmas only: a run of records in two parts, and one turn of the feeding.
-use Prim.Native.Nat.{ℕ, zero, suc, _+_, _*_, _/_, _%_, _-_, _≤_, _<_}
+use Prim.Native.Nat.{ℕ, zero, suc, _+_, _*_, _/_, _%_, _≤_, _<_}
 use native.Mathlib.Omega.{arith}
 use native.Mathlib.Nat.{add-zero, add-suc}
 use borrow.Author.Tests.{lt-ltb, le-ltb, eq-eqb}

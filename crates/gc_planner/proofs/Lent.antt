@@ -10,7 +10,7 @@ use mir.Syntax.{Name, Ty, tyInt, tyRef, Written, named, imm, w64, Fn, local, val
 use mir.Val.{Val, vint, hasTy, WT}
 use base.Logic.{SProp, ent, sep}
 use base.Stored.{Coded}
-use base.Fml.{GName, Lft, Share, Fml, ftrue, flft}
+use base.Fml.{Lft, Share, Fml, ftrue, flft}
 use prog.Wp.{Heap, Calls, Loops, WpFn}
 use ghost.Atoms.{Atoms, sem}
 use contract.Monad.{fact}

@@ -14,7 +14,7 @@ use Rattle.domain.specs.declared.OptionAddress.{OptionAddress}
 use Rattle.domain.specs.declared.OptionAddress.the-variants as address
 use Rattle.domain.specs.Values.{sameAddress}
 use Rattle.gc_walk.specs.declared.Seen.{Seen}
-use Rattle.gc_walk.specs.declared.Seen.the-variants.{Missing, Eliminable, Other}
+use Rattle.gc_walk.specs.declared.Seen.the-variants.{Missing}
 use Rattle.gc_walk.specs.declared.Outline.{Outline}
 use Rattle.store.specs.declared.Store.{Store}
 use Rattle.store.specs.Rows.{tournamentAt, matchAt}

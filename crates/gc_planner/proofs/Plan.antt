@@ -1,14 +1,12 @@
 -- The exits of `plan_standings`, in the document's order: 61, 62, 68, 67, then the walk. Assumes nothing.
 use Prim.Native.Nat.{ℕ, _≤_, _<_}
-use native.Mathlib.Omega.{arith}
 use mathlib.Core.Path.{_≡_, refl, ap, sym, subst, _∙_}
-use mathlib.Core.Bool.{Bool, true, false, cond}
+use mathlib.Core.Bool.{true, false}
 use mathlib.Core.List.{List, []}
 use borrow.Author.Tests.{le-leb, lt-leb}
 use lib.Dec.{leb}
 use lib.ListN.{length}
 use Rattle.domain.specs.declared.Address.{Address}
-use Rattle.domain.specs.declared.OptionAddress.{OptionAddress}
 use Rattle.domain.specs.declared.OptionAddress.the-variants as address
 use Rattle.domain.specs.declared.refusal.Refusal.the-variants.{Core}
 use Rattle.domain.specs.declared.refusal.CoreError.the-variants.{StoreUnsound, UnknownTournament, StandingTwice, TooManyStandings}
@@ -22,7 +20,7 @@ use Rattle.gc_walk.specs.Walk.{View, viewOf, walked}
 use Rattle.gc_planner.specs.declared.StandingRow.{StandingRow}
 use Rattle.gc_planner.specs.declared.Standings.{Standings}
 use Rattle.gc_planner.specs.declared.GcPlan.{GcPlan}
-use Rattle.gc_planner.specs.Cleanup.{planGc, early, twice, unlessTwice, outcome, walkTournament}
+use Rattle.gc_planner.specs.Cleanup.{planGc, early, twice}
 use Rattle.gc_planner.specs.Standings.{gathered, toldAt, twiceFrom}
 use Rattle.gc_planner.specs.Outline.{storeView, toldBy, saidBy, outlineOf, planOf, Plans}
 use Rattle.gc_planner.proofs.Same.{same-plan}

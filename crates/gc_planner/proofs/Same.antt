@@ -2,7 +2,7 @@
 -- `after` says what a walk of the document makes of what was met before it. Assumes nothing.
 use Prim.Native.Nat.{ℕ, zero, suc, _+_}
 use native.Mathlib.Omega.{arith}
-use mathlib.Core.Path.{_≡_, refl, ap, sym, subst, _∙_}
+use mathlib.Core.Path.{_≡_, refl, ap, sym, _∙_}
 use mathlib.Core.Bool.{Bool, true, false, cond}
 use mathlib.Core.List.{List, [], _∷_, _++_}
 use mathlib.Core.Option.{Option, none, some}
@@ -30,10 +30,10 @@ use Rattle.gc_planner.specs.declared.StandingRow.{StandingRow}
 use Rattle.gc_planner.specs.declared.Planned.{Planned}
 use Rattle.gc_planner.specs.declared.Planned.the-variants.{Due, Nothing, Refused}
 use Rattle.gc_planner.specs.declared.GcPlan.{GcPlan}
-use Rattle.gc_planner.specs.Cleanup.{Item, Walk, nothing, met, lacks, step, onward, andThen, standingOf, eliminable, needing, dueMatch, handOver, delegated, onStatus, onMatch}
+use Rattle.gc_planner.specs.Cleanup.{Item, Walk, nothing, met, lacks, step, onward, andThen, standingOf, eliminable, needing, handOver, onStatus, onMatch}
 use Rattle.gc_planner.specs.Cleanup.{matchesFrom, walkTournament, leading, answer, ended, outcome}
 use Rattle.gc_planner.specs.Standings.{toldSeen}
-use Rattle.gc_planner.specs.Outline.{storeView, saidBy, seenIn, addressAt, plannedOf, metBy, planOf}
+use Rattle.gc_planner.specs.Outline.{storeView, saidBy, seenIn, addressAt, metBy, planOf}
 
 -- ---- the first item of greatest level
 

@@ -5,7 +5,7 @@ use native.Mathlib.Numerals.{add-one}
 use mathlib.Core.Path.{_≡_, refl, ap, sym, subst, _∙_}
 use mathlib.Core.Bool.{Bool, true, false, cond}
 use mathlib.Core.List.{List, [], _∷_}
-use mathlib.Core.Option.{Option, none, some}
+use mathlib.Core.Option.{Option, some}
 use borrow.Author.Tests.{ltb-true, ltb-false}
 use lib.Dec.{ltb}
 use lib.ListN.{length, getD, replicate, length-replicate, getD-replicate, List·getD-eq-default}
@@ -15,19 +15,16 @@ use Rattle.domain.specs.declared.TournamentStanding.{TournamentStanding}
 use Rattle.domain.specs.Values.{sameAddress}
 use Rattle.store.specs.declared.Store.{Store}
 use Rattle.store.specs.declared.Link.the-variants.{End}
-use Rattle.store.specs.declared.MatchRow.{MatchRow}
-use Rattle.store.specs.declared.TournamentRow.{TournamentRow}
 use Rattle.store.specs.Rows.{tournamentAt, matchAt}
 use Rattle.store.specs.Laws.{far-tournament, far-match}
 use Rattle.gc_walk.specs.declared.Seen.{Seen}
-use Rattle.gc_walk.specs.declared.Seen.the-variants.{Missing, Eliminable, Other}
+use Rattle.gc_walk.specs.declared.Seen.the-variants.{Missing}
 use Rattle.gc_walk.specs.declared.TournamentLine.{TournamentLine}
-use Rattle.gc_walk.specs.declared.MatchLine.{MatchLine}
-use Rattle.gc_walk.specs.Walk.{View, viewOf, clearLine, clearMatchLine}
+use Rattle.gc_walk.specs.Walk.{viewOf, clearLine, clearMatchLine}
 use Rattle.gc_planner.specs.declared.StandingRow.{StandingRow}
 use Rattle.gc_planner.specs.declared.Told.{Told}
 use Rattle.gc_planner.specs.Cleanup.{standingOf, eliminable, isThere, twice}
-use Rattle.gc_planner.specs.Standings.{noAddress, clearRow, clearTold, toldOf, fill, gather, gathered, toldAt, toldSeen, seenFrom, thereOf, twiceFrom}
+use Rattle.gc_planner.specs.Standings.{noAddress, clearRow, clearTold, toldOf, gather, gathered, toldAt, toldSeen, seenFrom, thereOf, twiceFrom}
 use Rattle.gc_planner.specs.Outline.{lineOf, matchLineOf, storeView, toldBy, seenIn, saidBy, blankOutline, outlineTo, outlineOf}
 use Rattle.gc_planner.proofs.Lists.{fill-at, fill-past}
 

@@ -4,7 +4,6 @@ use mathlib.Core.Path.{_≡_}
 use lib.ListN.{length, replicate}
 use mathlib.Core.List.{List}
 use mathlib.Core.Option.{Option, none, some}
-use mathlib.Core.Bool.{cond}
 use Rattle.domain.specs.declared.Address.{Address}
 use Rattle.domain.specs.declared.GcIntent.the-variants.{EliminateMatch, EliminateChild}
 use Rattle.domain.specs.declared.TournamentStanding.{TournamentStanding}
@@ -16,7 +15,7 @@ use Rattle.store.specs.declared.TournamentRow.{TournamentRow}
 use Rattle.store.specs.declared.MatchRow.{MatchRow}
 use Rattle.store.specs.Rows.{tournamentAt, matchAt}
 use Rattle.gc_walk.specs.declared.Seen.{Seen}
-use Rattle.gc_walk.specs.declared.Seen.the-variants.{Missing, Eliminable, Other}
+use Rattle.gc_walk.specs.declared.Seen.the-variants.{Missing}
 use Rattle.gc_walk.specs.declared.TournamentLine.{TournamentLine}
 use Rattle.gc_walk.specs.declared.MatchLine.{MatchLine}
 use Rattle.gc_walk.specs.declared.Outline.{Outline}

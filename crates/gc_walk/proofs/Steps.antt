@@ -4,7 +4,7 @@ use Prim.Native.Nat.{ℕ, zero, suc, _+_, _-_, _*_, _<_, _≤_}
 use native.Mathlib.Omega.{arith}
 use native.Mathlib.Numerals.{sub-one}
 use native.Mathlib.Nat.{add-mul, one-mul}
-use mathlib.Core.Path.{_≡_, refl, sym, ap, subst, _∙_}
+use mathlib.Core.Path.{_≡_, refl, sym, ap, _∙_}
 use mathlib.Core.Bool.{Bool, true, false, cond}
 use lib.Dec.{leb, ltb}
 use Rattle.store.specs.declared.Link.{Link}
@@ -18,7 +18,7 @@ use Rattle.gc_walk.specs.declared.TournamentLine.{TournamentLine}
 use Rattle.gc_walk.specs.declared.Item.{Item}
 use Rattle.gc_walk.specs.declared.Item.the-variants.{Nothing, Match, Child}
 use Rattle.gc_walk.specs.declared.Met.{Met}
-use Rattle.gc_walk.specs.Walk.{View, clearMatchLine, looked, lacking, ended, taken, ranked, considered, dueMatch, onChild, onStatus, onMatch}
+use Rattle.gc_walk.specs.Walk.{View, looked, lacking, ended, taken, ranked, dueMatch, onChild, onStatus, onMatch}
 use Rattle.gc_walk.specs.Walk.{matchesFrom, needing, isMissing, walkT, walkM, room, roomM}
 
 same-either : (b : Bool) (m n : Met) → n ≡ m → cond b m n ≡ m

@@ -9,7 +9,7 @@ use mathlib.Core.List.{List, [], _∷_, _++_, append-assoc, append-nil}
 use lib.ListN.{length, take, drop, set, getD, length-append, length-drop, take-append-drop, length-set, drop-of-length-le}
 use lib.Dec.{ltb}
 use borrow.Author.Tests.{lt-ltb, le-ltb}
-use lib.Seq.{take-all, take-suc, take-length, length-take-le, set-split, take-at, drop-at, drop-drop, take-append-le, drop-append-le}
+use lib.Seq.{take-all, take-suc, take-length, length-take-le, set-split, take-at, drop-at, drop-drop}
 use Rattle.lines.specs.Text.{over, decimal, pickText, line, linesOf}
 
 -- d became e, with t laid over from `at` up to r

@@ -1,7 +1,7 @@
 -- The text that the program `fold` prints (document 01, "Records and `fold`"): for each record "its index from 0 and its number;
 -- `tail 74` if bytes remain; last the rows in use of tournaments, matches, commitments". Assumes nothing: these are definitions.
 use Prim.Native.Nat.{ℕ, zero, suc, _+_, _/_, _%_}
-use mathlib.Core.Bool.{Bool, true, false, cond}
+use mathlib.Core.Bool.{Bool, true, false}
 use mathlib.Core.List.{List, [], _∷_, _++_}
 use lib.ListN.{length, take, drop}
 use lib.Dec.{ltb, eqb}

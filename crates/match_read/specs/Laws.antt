@@ -20,7 +20,6 @@ use Rattle.observer.specs.After as after
 use Rattle.observer.specs.Views.{decodeTimeout}
 use Rattle.observer.specs.declared.TimeoutRead.{TimeoutRead}
 use Rattle.observer.specs.declared.TimeoutDecoded.the-variants.{Read}
-use Rattle.observer.specs.declared.EventChecked.{EventChecked}
 use Rattle.observer.specs.declared.EventChecked.the-variants.{Accepted, Refused}
 use Rattle.match_read.specs.Match.{delegated, validateEventPhase, viewOf, readView, readPhase, readClocked, readMatch}
 use Rattle.match_read.specs.declared.EventStatus.{EventStatus}

@@ -15,7 +15,6 @@ use lib.Dec.{eqb, ltb, leb}
 use lib.ListN.{length, getD, take, drop, length-append, length-drop}
 use lib.Pow.{pow-add}
 use lib.Seq.{take-add, drop-drop, drop-cons, length-take-le}
-use Rattle.digest.specs.declared.Digest.{Digest}
 use Rattle.digest.specs.Digest.{word, wordAt, eightAt, fromBytes}
 use Rattle.record.specs.Bytes.{number, digestAt, zeros}
 use Rattle.record.specs.Layout.{Field, kinds, fieldsOf, InNone, gap, clear, size}

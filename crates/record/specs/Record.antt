@@ -6,7 +6,6 @@ use lib.ListN.{getD, length}
 use lib.Dec.{eqb, ltb, leb}
 use Rattle.domain.specs.declared.MatchDeletionReason.{MatchDeletionReason}
 use Rattle.domain.specs.declared.MatchDeletionReason.the-variants.{Step, Timeout, ChildTournament}
-use Rattle.domain.specs.declared.MatchID.{MatchID}
 use Rattle.domain.specs.declared.TournamentDescriptor.{TournamentDescriptor}
 use Rattle.domain.specs.declared.TournamentKind.{TournamentKind}
 use Rattle.domain.specs.declared.TournamentKind.the-variants.{Leaf, NonLeaf}

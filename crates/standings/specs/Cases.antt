@@ -4,7 +4,7 @@
 use Prim.Native.Nat.{ℕ}
 use mathlib.Core.Path.{_≡_, refl}
 use mathlib.Core.Bool.{Bool, true, false}
-use mathlib.Core.List.{List, [], _∷_}
+use mathlib.Core.List.{[], _∷_}
 use Rattle.digest.specs.declared.Digest.{Digest}
 use Rattle.digest.specs.Digest.{sameDigest}
 use Rattle.u256.specs.Value.{valueOf}

@@ -31,7 +31,7 @@ use Rattle.store.specs.declared.MatchStatus.the-variants as row
 use Rattle.store.specs.Rows.{matchAt, openedRow, clockedStatus}
 use Rattle.store.specs.Free.{freeS, freeT}
 use Rattle.dispute.specs.declared.Applied.{Applied}
-use Rattle.dispute.specs.Rows.{joinRows, createRows, latestRows, statusRows, innerRows}
+use Rattle.dispute.specs.Rows.{joinRows, createRows, latestRows, statusRows}
 use Rattle.dispute.specs.Apply as rows
 use Rattle.dispute.specs.Apply.{accepted, performed}
 use Rattle.changes.specs.declared.Change.{Change}

@@ -21,8 +21,7 @@ use Rattle.domain.specs.declared.refusal.CoreError.the-variants.{TooManyStandin
 use Rattle.store.specs.declared.Store.{Store}
 use Rattle.store.specs.declared.Link.{Link}
 use Rattle.store.specs.declared.Link.the-variants.{End, At}
-use Rattle.store.specs.Rows.{tournamentAt, matchAt, usedTournament}
-use Rattle.row_tests.specs.Sound.{soundRows}
+use Rattle.store.specs.Rows.{tournamentAt, usedTournament}
 use Rattle.gc_planner.specs.declared.StandingRow.{StandingRow}
 use Rattle.gc_planner.specs.declared.GcPlan.{GcPlan}
 use Rattle.gc_planner.specs.Cleanup as rows
@@ -32,7 +31,7 @@ use Rattle.told.specs.Held.{read, Tour, Tour.tour, Ms, Ms.nil, Ms.cons, 
 use Rattle.told.specs.Good.{Good}
 use Rattle.told.specs.Room.{within}
 use Rattle.told.specs.Passing.{to-tests}
-use Rattle.told.specs.Cleanup.{Standings, PlannedGc, State, Result, Result.Ok, Result.Err, try, orMissing, replaces, consider, considered, consideredAt, planTournament, planMatches, planStatus, intentOf, resultOf, planRust, dueIf, dueChild, dueT, dueM, dueS, lackOr, lackT, lackM, lackS, NoneAbove, AllBelow, FirstOfGreatest, Says, Says.missing, Says.something, Says.nothing}
+use Rattle.told.specs.Cleanup.{Standings, PlannedGc, State, Result, Result.Ok, Result.Err, try, orMissing, considered, planTournament, planMatches, planStatus, intentOf, resultOf, planRust, dueIf, dueChild, dueT, dueM, dueS, lackOr, lackT, lackM, lackS, NoneAbove, AllBelow, FirstOfGreatest, Says, Says.missing, Says.something, Says.nothing}
 
 -- ---- walks, one after the other
 

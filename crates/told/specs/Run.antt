@@ -34,7 +34,7 @@ use Rattle.changes.specs.declared.Change.the-variants as change
 use Rattle.changes.specs.declared.Links.the-variants as links
 use Rattle.changes.specs.Rules as rules
 use Rattle.changes.specs.Rules.{checkKind, emitted, opening}
-use Rattle.told.specs.Tree.{Tournament, Answer, Answer.refused, Answer.done, demand, need, passes, hasRoom, applyRust, lacking, limited, toTournament, depthOf, newTournament, applyTree, openTree, tell}
+use Rattle.told.specs.Tree.{Tournament, Answer, Answer.refused, Answer.done, need, passes, hasRoom, applyRust, lacking, limited, toTournament, depthOf, newTournament, applyTree, openTree, tell}
 use Rattle.told.specs.Held.{tref, Tour, plainT, Rep}
 use Rattle.told.specs.Good.{Good}
 use Rattle.told.specs.Keep.{Kept, tells-good, opens-good}

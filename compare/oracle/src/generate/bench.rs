@@ -102,6 +102,11 @@ pub fn request(name: &str, size: u64, times: u64, out: &mut impl Write) -> io::R
         "run-last" => (1, one(size, 0), vec![event(3, root, last, 0, 0); 374]),
         "run-full" => (1, one(128, 256), (0..374).map(|n| advance(false, 128, n)).collect()),
         "run-spread" => (1, spread(), (0..374).map(|n| advance(true, 128, n)).collect()),
+        // Records that a full store refuses: second joins, and creations and delegations for which there is no row. The Rust has room.
+        "run-joins" => (1, spread(), (0..374).map(|n| join(address(1 + n % 32), digest(10 + n / 32 % 8))).collect()),
+        "run-creations" => (1, spread(), (0..374).map(|n| create(address(1 + n % 32), spread_pair(n / 32 % 4))).collect()),
+        "run-creations-full" => (1, one(128, 256), (0..374).map(|n| create(root, pair(n % 128))).collect()),
+        "run-delegations" => (1, spread(), (0..374).map(|n| event(5, address(9 + n % 24), spread_pair(n / 24 % 4), 33, 1)).collect()),
         // The first number is the block here.
         "one" => (9, one(size, 0), vec![]),
         "spread" => (size, spread(), vec![]),

@@ -1,6 +1,6 @@
 -- `asked_of` answers what an event of a tournament asks for. Assumes nothing.
 use borrow.Author.Needs.{needs}
-use mathlib.Core.Path.{_≡_, ap, sym, _∙_}
+use mathlib.Core.Path.{sym}
 use Rattle.dispute.proofs.asked_of.Statement.{statement}
 use Rattle.dispute.proofs.asked_of.Tie as tie
 

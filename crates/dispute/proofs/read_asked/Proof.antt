@@ -1,6 +1,6 @@
 -- `read_asked` answers what a record asks for. Assumes nothing.
 use borrow.Author.Needs.{needs}
-use mathlib.Core.Path.{_≡_, ap, sym, _∙_}
+use mathlib.Core.Path.{sym, _∙_}
 use Rattle.dispute.proofs.read_asked.Statement.{statement}
 use Rattle.dispute.proofs.read_asked.Tie as tie
 

@@ -7,12 +7,12 @@ use mathlib.Core.Path.{_≡_, refl, sym, ap, subst, _∙_}
 use mathlib.Core.List.{List}
 use lib.ListN.{length, take, drop, set, length-set}
 use Rattle.store.specs.declared.Store.{Store}
-use Rattle.store.specs.Rows.{matchAt, setMatch, withStatus}
+use Rattle.store.specs.Rows.{setMatch}
 use Rattle.row_tests.specs.Laws.{Sized, sized}
 use Rattle.changes.specs.declared.Change.{Change}
 use Rattle.changes.specs.Within.{Within}
 use Rattle.dispute.specs.Apply.{performed}
-use Rattle.dispute.specs.Run.{recordAt, onRecord}
+use Rattle.dispute.specs.Run.{recordAt}
 use Rattle.dispute.specs.Steps.{readChange, After}
 use Rattle.dispute.proofs.Taken.{within-as, record-within}
 use Rattle.dispute.proofs.Run.{read-is, after-none, after-more, sized-match}
@@ -55,7 +55,7 @@ module _ (d : tie.After-number-of Inv-loop μ-loop) where
   change-is = d .before .read-step .ensures ∙ ap (readChange held) one-record
 
   rows : (x : Change) → change ≡ x → Within x
-  rows x q = within-as held _ change x change-is q (record-within held (recordAt i bytes) (d .before .before .before .before .loop .inv .2))
+  rows x q = within-as _ change x change-is q (record-within held (recordAt i bytes) (d .before .before .before .before .loop .inv .2))
 
   more : (x : Change) (o : Store) → change ≡ x → o ≡ performed held x .store → After start bytes lent (i + 1) o (set (d .before .before .before .before .loop .numbers) i (d .number-of .result))
   more x o q e =

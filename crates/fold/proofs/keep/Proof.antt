@@ -4,8 +4,8 @@ use native.Mathlib.Numerals.{add-one}
 use native.Mathlib.Nat.{add-comm}
 use borrow.Author.Needs.{needs}
 use mathlib.Core.Path.{_≡_, refl, sym, ap, _∙_}
-use mathlib.Core.List.{List, _∷_, [], _++_}
-use lib.ListN.{length, take, drop, set, getD, length-set, length-drop, length-take}
+use mathlib.Core.List.{List, _++_}
+use lib.ListN.{length, take, drop, set, getD, length-set, length-drop}
 use lib.Seq.{take-suc, drop-cons, set-at, getD-append-add, getD-drop, length-take-le, append-snoc}
 use Rattle.fold.proofs.keep.Statement.{statement}
 use Rattle.fold.proofs.keep.Tie as tie

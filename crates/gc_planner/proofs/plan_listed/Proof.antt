@@ -1,7 +1,7 @@
 -- `plan_listed` plans by the rows that its list holds. Assumes nothing.
 use borrow.Author.Needs.{needs}
 use native.Mathlib.Omega.{arith}
-use mathlib.Core.Path.{_≡_, sym, _∙_}
+use mathlib.Core.Path.{sym, _∙_}
 use Rattle.gc_planner.specs.Standings.{rowsOf}
 use Rattle.gc_planner.proofs.Lists.{rows-length, rows-gathered}
 use Rattle.gc_planner.proofs.plan_listed.Statement.{statement}

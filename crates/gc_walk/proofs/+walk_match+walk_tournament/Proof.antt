@@ -8,7 +8,7 @@ use lib.ListN.{getD, length-map, List·getD-eq-default}
 use Rattle.gc_walk.specs.declared.MatchLine.{MatchLine}
 use Rattle.gc_walk.specs.declared.Met.{Met}
 use Rattle.gc_walk.specs.declared.Item.the-variants.{Child}
-use Rattle.gc_walk.specs.Walk.{viewOf, clearLine, clearMatchLine, upTo, considered, dueMatch, lacking, ended, isMissing, matchesFrom, onMatch, walkT, walkM, room, roomM}
+use Rattle.gc_walk.specs.Walk.{viewOf, clearLine, clearMatchLine, upTo, considered, dueMatch, lacking, matchesFrom, onMatch, walkT, walkM, roomM}
 use Rattle.gc_walk.proofs.Steps.{from-out, from-end, from-ended, from-on, from-far, far-looked, walkM-is, walkT-none, walkT-on, walkT-off, room-open, one-less, walkM-within}
 use borrow.Fn.Kinds.{In}
 use borrow.Fn.PlainCycle.{Measures, is, falls, and}

@@ -21,28 +21,28 @@ returns-7 : tie.Need-returns-7
 returns-7 c = simp (c .before .before .e6 .given .1) (c .with-address5 .ensures)
 
 returns-8 : tie.Need-returns-8
-returns-8 c = cc
+returns-8 c = rw (c .with .ensures, c .before .before .e7 .given .1)
 
 returns-9 : tie.Need-returns-9
-returns-9 c = cc
+returns-9 c = rw (c .with2 .ensures, c .before .before .e8 .given .1)
 
 returns-10 : tie.Need-returns-10
-returns-10 c = cc
+returns-10 c = rw (c .with3 .ensures, c .before .before .e9 .given .1)
 
 returns-11 : tie.Need-returns-11
-returns-11 c = cc
+returns-11 c = rw (c .with4 .ensures, c .before .before .e10 .given .1)
 
 returns-12 : tie.Need-returns-12
 returns-12 c = simp (c .before .before .e11 .given .1) (c .with-digest .ensures)
 
 returns-14 : tie.Need-returns-14
-returns-14 c = cc
+returns-14 c = rw (c .with5 .ensures, c .before .before .e12 .given .1)
 
 returns-15 : tie.Need-returns-15
-returns-15 c = cc
+returns-15 c = rw (c .with6 .ensures, c .before .before .e13 .given .1)
 
 returns-16 : tie.Need-returns-16
-returns-16 c = cc
+returns-16 c = rw (c .with7 .ensures, c .before .before .e14 .given .1)
 
 pub with-core-spec : {M : Type 1} → statement M
 with-core-spec =

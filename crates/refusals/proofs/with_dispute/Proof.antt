@@ -3,7 +3,7 @@ use Rattle.refusals.proofs.with_dispute.Statement.{statement}
 use Rattle.refusals.proofs.with_dispute.Tie as tie
 
 returns : tie.Need-returns
-returns c = cc
+returns c = rw (c .with .ensures, c .before .before .e .given .1)
 
 returns-2 : tie.Need-returns-2
 returns-2 c = simp (c .before .before .e2 .given .1) (c .with-both .ensures)

@@ -5,7 +5,7 @@ use Rattle.requests.proofs.flag_at.Tie as tie
 
 returns : tie.Need-returns
 unfolding flagOf
-returns c = cc
+returns c = rw (c .byte-at .ensures)
 
 pub flag-at-spec : {M : Type 1} → statement M
 flag-at-spec = tie.close (tie.spec (λ c κs. search needs) returns)

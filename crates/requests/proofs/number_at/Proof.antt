@@ -5,7 +5,7 @@ use Rattle.requests.proofs.number_at.Tie as tie
 
 returns : tie.Need-returns
 unfolding number64
-returns c = cc
+returns c = rw (c .wide322 .ensures, c .before .number322 .ensures, c .before .before .past .ensures, c .before .before .before .wide32 .ensures, c .before .before .before .before .number32 .ensures)
 
 pub number-at-spec : {M : Type 1} → statement M
 number-at-spec =

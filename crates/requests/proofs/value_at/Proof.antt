@@ -5,7 +5,7 @@ use Rattle.requests.proofs.value_at.Tie as tie
 
 returns : tie.Need-returns
 unfolding valueAt
-returns c = cc
+returns c = rw (c .digest-at .ensures)
 
 pub value-at-spec : {M : Type 1} → statement M
 value-at-spec = tie.close (tie.spec (λ c κs. search needs) returns)

@@ -6,7 +6,7 @@ use Rattle.row_tests.proofs.is_clear_match.Tie as tie
 
 returns : tie.Need-returns
 unfolding isClearMatch
-returns c = cc
+returns c = rw (c .is-free .ensures, c .before .equal3 .ensures, c .before .before .equal2 .ensures, c .before .before .before .equal .ensures, c .before .before .before .before .is-end .ensures, c .before .before .before .before .before .before .zero .ensures)
 
 pub is-clear-match-spec : {M : Type 1} → statement M
 is-clear-match-spec = tie.close (tie.spec (λ c κs. search needs) (λ c κs. search needs) (λ c κs. search needs) (λ c κs. search needs) (λ c κs. search needs) (λ c κs. search needs) returns)
