@@ -1,0 +1,2 @@
+-- What a failed read leaves.
+pub mod Input
