@@ -2,7 +2,7 @@
 -- geometry are numbers, in `Rattle.geometry.specs.Table`; the others are said of every store, opening, block and digest that they fit.
 -- Assumes nothing: these are definitions, and `table` of proofs/ is the theorem.
 use Rattle.std.specs.Prelude.{ℕ, ◌≤◌, length, ◌≡◌, false, List, [], ◌∷◌}
-use Rattle.std.proofs.Math.Option.{none, some}
+use Rattle.std.proofs.Math.Option.{some}
 use Rattle.digest.specs.declared.Digest.{Digest}
 use Rattle.digest.specs.Digest.{same_digest}
 use Rattle.domain.specs.declared.GcIntent.TheVariants.{EliminateMatch, EliminateChild}
@@ -31,10 +31,9 @@ use Rattle.gc_planner.specs.declared.StandingRow.{StandingRow}
 use Rattle.gc_planner.specs.declared.Planned.TheVariants.{Due, Nothing}
 use Rattle.gc_planner.specs.declared.GcPlan.{GcPlan}
 use Rattle.gc_planner.specs.Cleanup.{standing_of, twice, plan_gc}
-use Rattle.told.specs.Tree.{Commitment, Tournament, Tournament.tournament, Matches.empty, Matches.created, Status.Clocked, Status.Inner, descriptor_of, Position.Candidate, Position.Eliminated}
+use Rattle.told.specs.Tree.{Commitment, Tournament, Tournament.tournament, Matches.empty, Matches.created, Status.Clocked, Status.Inner, descriptor_of}
 use Rattle.told.specs.Good.{Good}
 use Rattle.told.specs.Events.{HoldsTree, store_after}
-use Rattle.told.specs.Shown.{ShowsPosition.candidate, ShowsPosition.eliminated}
 
 abbrev pub against : Digest → Digest → MatchID
 against a b = record { commitment_one = a; commitment_two = b }
