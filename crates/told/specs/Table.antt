@@ -1,7 +1,7 @@
 -- Document 01, "Numbers to hold it to": the rows marked * are one table, and `Numbers` is the single statement that they hold. The rows on
 -- geometry are numbers, in `Rattle.geometry.specs.Table`; the others are said of every store, opening, block and digest that they fit.
 -- Assumes nothing: these are definitions, and `table` of proofs/ is the theorem.
-use Rattle.std.specs.Prelude.{ℕ, ◌≤◌, length, ◌≡◌, false, List, [], ◌∷◌}
+use Rattle.std.specs.Prelude.{ℕ, ◌≤◌, length, ◌≡◌, false, List, [], ◌∷◌, None, Ok, Some}
 use Rattle.std.proofs.Math.Option.{some}
 use Rattle.digest.specs.declared.Digest.{Digest}
 use Rattle.digest.specs.Digest.{same_digest}
@@ -9,8 +9,6 @@ use Rattle.domain.specs.declared.GcIntent.TheVariants.{EliminateMatch, Eliminate
 use Rattle.domain.specs.declared.InnerEliminationReason.{InnerEliminationReason}
 use Rattle.domain.specs.declared.MatchID.{MatchID}
 use Rattle.domain.specs.declared.MatchDeletionReason.{MatchDeletionReason}
-use Rattle.domain.specs.declared.OptionDigest.TheVariants as digest
-use Rattle.domain.specs.declared.OptionAddress.TheVariants as address
 use Rattle.domain.specs.declared.TournamentDescriptor.{TournamentDescriptor}
 use Rattle.domain.specs.declared.TournamentStanding.{TournamentStanding}
 use Rattle.domain.specs.declared.TournamentStanding.TheVariants.{InnerEliminable}
@@ -22,13 +20,10 @@ use Rattle.domain.specs.Values.{id_hash}
 use Rattle.geometry.specs.Table.{Holds, rows}
 use Rattle.store.specs.declared.Store.{Store}
 use Rattle.dispute.specs.declared.Match.{Match}
-use Rattle.dispute.specs.declared.Answer.TheVariants as said
 use Rattle.dispute.specs.declared.CommitmentPosition.TheVariants as answered
-use Rattle.dispute.specs.declared.Positioned.TheVariants as positioned
 use Rattle.dispute.specs.Apply.{apply_rows}
 use Rattle.dispute.specs.Position.{position_of}
 use Rattle.gc_planner.specs.declared.StandingRow.{StandingRow}
-use Rattle.gc_planner.specs.declared.Planned.TheVariants.{Due, Nothing}
 use Rattle.gc_planner.specs.declared.GcPlan.{GcPlan}
 use Rattle.gc_planner.specs.Cleanup.{standing_of, twice, plan_gc}
 use Rattle.told.specs.Tree.{Commitment, Tournament, Tournament.tournament, Matches.empty, Matches.created, Status.Clocked, Status.Inner, descriptor_of}
@@ -49,21 +44,21 @@ paired_again d a b reason m n =
     ∷ []
 
 abbrev pub latest : Digest → MatchID → Commitment
-latest x id = record { root = x; latest = digest.Some (id_hash id) }
+latest x id = record { root = x; latest = Some (id_hash id) }
 
 -- over any store, after any accepted opening: A is a candidate, and B is eliminated by that match
 pub record Again (s : Store) (d : TournamentDescriptor) (a b : Digest) (reason : MatchDeletionReason) (m n : ℕ) : Type 0 where
-  pub one : position_of (store_after s (Opening d ∷ paired_again d a b reason m n)) d.address a ≡ positioned.At answered.Candidate
+  pub one : position_of (store_after s (Opening d ∷ paired_again d a b reason m n)) d.address a ≡ Ok answered.Candidate
   pub by : Match
   pub two : position_of (store_after s (Opening d ∷ paired_again d a b reason m n)) d.address b
-      ≡ positioned.At (answered.Eliminated by reason)
+      ≡ Ok (answered.Eliminated by reason)
   pub that : by.id ≡ against a b
 
 -- ---- the rows on the cleanup, over any store that holds such a tree and any list of standings that answers so
 
 -- what a plan of the tree x is at a block
 abbrev pub Plans : Tournament → List StandingRow → ℕ → GcPlan → Type 0
-Plans x st at p = (s : Store) → HoldsTree s x → Good x → length st ≤ 32 → twice [] st ≡ address.None → plan_gc s st at ≡ p
+Plans x st at p = (s : Store) → HoldsTree s x → Good x → length st ≤ 32 → twice [] st ≡ None → plan_gc s st at ≡ p
 
 -- a root with one match, clocked until block 10
 abbrev pub clocked10 : TournamentDescriptor → List Commitment → MatchID → Tournament
@@ -75,8 +70,8 @@ delegating d cs id block other child = tournament d cs (created id (Clocked bloc
 
 -- "eliminable block 10: at 9 none, at 10 due"
 pub record Clock (d : TournamentDescriptor) (cs : List Commitment) (id : MatchID) (st : List StandingRow) : Type 0 where
-  pub at-nine : Plans (clocked10 d cs id) st 9 (record { planned = Nothing; steps = 2 })
-  pub at-ten : Plans (clocked10 d cs id) st 10 (record { planned = Due (EliminateMatch d.address id); steps = 2 })
+  pub at-nine : Plans (clocked10 d cs id) st 9 (record { planned = (Ok None); steps = 2 })
+  pub at-ten : Plans (clocked10 d cs id) st 10 (record { planned = Ok (Some (EliminateMatch d.address id)); steps = 2 })
 
 -- ---- all rows
 
@@ -90,6 +85,6 @@ pub record Numbers : Type 0 where
       (st : List StandingRow) (at : ℕ) (v : TournamentStanding) (reason : InnerEliminationReason) → d.level ≡ 0 → block ≤ at
       → (descriptor_of child).level ≡ 1 → standing_of st d.address ≡ some v → standing_of st (descriptor_of child).address ≡ some
       (InnerEliminable reason) → Plans (delegating d cs id block other child) st at
-      (record { planned = Due (EliminateChild d.address (descriptor_of child).address); steps = 3 })
+      (record { planned = Ok (Some (EliminateChild d.address (descriptor_of child).address)); steps = 3 })
   pub again : (s : Store) (d : TournamentDescriptor) (a b : Digest) (reason : MatchDeletionReason) (m n : ℕ)
-      → (apply_rows s (Opening d)).answer ≡ said.Accepted → same_digest a b ≡ false → Again s d a b reason m n
+      → (apply_rows s (Opening d)).answer ≡ (Ok tt) → same_digest a b ≡ false → Again s d a b reason m n

@@ -1,0 +1,6 @@
+-- What the functions here answer: a value, or why there is none. Assumes nothing: these are abbreviations.
+use Rattle.std.specs.Prelude.{Result}
+use Rattle.domain.specs.declared.refusal.Refusal.{Refusal}
+
+abbrev pub Tested : Type 0
+Tested = Result (Unit {0}) Refusal
