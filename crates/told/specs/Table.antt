@@ -2,7 +2,6 @@
 -- geometry are numbers, in `Rattle.geometry.specs.Table`; the others are said of every store, opening, block and digest that they fit.
 -- Assumes nothing: these are definitions, and `table` of proofs/ is the theorem.
 use Rattle.std.specs.Prelude.{ℕ, ◌≤◌, length, ◌≡◌, false, List, [], ◌∷◌, None, Ok, Some}
-use Rattle.std.proofs.Math.Option.{some}
 use Rattle.digest.specs.declared.Digest.{Digest}
 use Rattle.digest.specs.Digest.{same_digest}
 use Rattle.domain.specs.declared.GcIntent.TheVariants.{EliminateMatch, EliminateChild}
@@ -80,10 +79,10 @@ pub record Clock (d : TournamentDescriptor) (cs : List Commitment) (id : MatchID
 pub record Numbers : Type 0 where
   pub geometry : Holds rows
   pub clock : (d : TournamentDescriptor) (cs : List Commitment) (id : MatchID) (st : List StandingRow) (v : TournamentStanding)
-      → standing_of st d.address ≡ some v → Clock d cs id st
+      → standing_of st d.address ≡ Some v → Clock d cs id st
   pub first : (d : TournamentDescriptor) (cs : List Commitment) (id : MatchID) (block : ℕ) (other : MatchID) (child : Tournament)
       (st : List StandingRow) (at : ℕ) (v : TournamentStanding) (reason : InnerEliminationReason) → d.level ≡ 0 → block ≤ at
-      → (descriptor_of child).level ≡ 1 → standing_of st d.address ≡ some v → standing_of st (descriptor_of child).address ≡ some
+      → (descriptor_of child).level ≡ 1 → standing_of st d.address ≡ Some v → standing_of st (descriptor_of child).address ≡ Some
       (InnerEliminable reason) → Plans (delegating d cs id block other child) st at
       (record { planned = Ok (Some (EliminateChild d.address (descriptor_of child).address)); steps = 3 })
   pub again : (s : Store) (d : TournamentDescriptor) (a b : Digest) (reason : MatchDeletionReason) (m n : ℕ)
