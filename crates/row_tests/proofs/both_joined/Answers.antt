@@ -1,5 +1,5 @@
 -- `both_joined` walks a chain for two commitments at once. The loop keeps what is left to be met of both. Assumes nothing.
-use Rattle.std.proofs.Common.{◌≡◌, ◌∙◌, ap, ap₂, ◌||◌, ◌&&◌, false, sym, refl, arith}
+use Rattle.std.proofs.Common.{◌∙◌, ap, ◌||◌, false, refl, arith}
 use Rattle.store.specs.Rows.{clear_commitment}
 use Rattle.row_tests.specs.Laws.{seen_both, no_row, both-starts, both-on, both-met, both-out, both-end, both-past}
 use Rattle.row_tests.proofs.both_joined.Goals as goal

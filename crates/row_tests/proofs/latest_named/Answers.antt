@@ -1,5 +1,5 @@
 -- `latest_named` walks a chain of matches. The loop keeps what the matches still to come leave. Assumes nothing.
-use Rattle.std.proofs.Common.{◌≡◌, ◌∙◌, ap, sym, refl, arith, Some}
+use Rattle.std.proofs.Common.{◌∙◌, sym, arith}
 use Rattle.store.specs.Rows.{clear_match}
 use Rattle.row_tests.specs.Laws.{no_row, latest-on, latest-out, latest-end, latest-past}
 use Rattle.row_tests.proofs.latest_named.Goals.{then-names, else-names}
