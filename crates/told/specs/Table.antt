@@ -22,7 +22,7 @@ use Rattle.dispute.specs.declared.Match.{Match}
 use Rattle.dispute.specs.declared.CommitmentPosition.TheVariants as answered
 use Rattle.dispute.specs.Apply.{apply_rows}
 use Rattle.dispute.specs.Position.{position_of}
-use Rattle.gc_planner.specs.declared.StandingRow.{StandingRow}
+use Rattle.gc_walk.specs.declared.StandingRow.{StandingRow}
 use Rattle.gc_planner.specs.declared.GcPlan.{GcPlan}
 use Rattle.gc_planner.specs.Cleanup.{standing_of, twice, plan_gc}
 use Rattle.told.specs.Tree.{Commitment, Tournament, Tournament.tournament, Matches.empty, Matches.created, Status.Clocked, Status.Inner, descriptor_of}
