@@ -13,18 +13,18 @@ returns-then-j-i g c = meets-here _ _ _ _ _ _ _ _ c.loop.invariant c.loop-test.t
 pub returns-in_default-get : goal.returns-in_default-get
 returns-in_default-get g c =
     meets-past _ _ _ _ _ _ _ c.loop.invariant c.in-Some.is (ne_eqb _ _ c.if-j-i.false)
-    (ap g.R.Chained.link (get_or-eq_default c.args.rows.now g.R.Chained.clear c.in_default-get.ensures.lookup.3) ∙ g.R.Chained.clear_ends)
+    (ap g.R.Chained.after (get_or-eq_default c.args.rows.now g.R.Row.clear c.in_default-get.ensures.lookup.3) ∙ g.met.R.Chained.clear_ends)
 
 pub returns-then-bars : goal.returns-then-bars
 returns-then-bars g c =
     meets-bad _ _ _ _ _ _ _ _ c.loop.invariant c.loop-test.true c.in-Some.is (ne_eqb _ _ c.if-j-i.false)
-    (rw (c.in-Some-get.ensures.lookup.3.1 g.R.Chained.clear) at (sym c.bars.ensures ∙ c.if-bars.true))
+    (rw (c.in-Some-get.ensures.lookup.3.1 g.R.Row.clear) at (sym c.bars.ensures ∙ c.if-bars.true))
 
 pub loop-preserved : goal.loop-preserved
 loop-preserved g c =
     meets_on _ _ _ _ _ _ _ _ _ c.loop.invariant c.loop-test.true c.in-Some.is (ne_eqb _ _ c.if-j-i.false)
-    (rw (c.in-Some-get.ensures.lookup.3.1 g.R.Chained.clear) at (sym c.bars.ensures ∙ c.if-bars.false))
-    (c.next-l.ensures ∙ ap g.R.Chained.link (c.in-Some-get.ensures.lookup.3.1 g.R.Chained.clear))
+    (rw (c.in-Some-get.ensures.lookup.3.1 g.R.Row.clear) at (sym c.bars.ensures ∙ c.if-bars.false))
+    (c.next-l.ensures ∙ ap g.R.Chained.after (c.in-Some-get.ensures.lookup.3.1 g.R.Row.clear))
 
 pub returns : goal.returns
 returns g c = meets-out _ _ _ _ _ _ c.loop.invariant (omega (arith, c.loop-test.false))

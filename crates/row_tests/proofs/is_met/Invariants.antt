@@ -5,5 +5,5 @@ use Rattle.row_tests.proofs.is_met.Given as goal
 
 abbrev pub invariant-loop : goal.invariant-loop
 invariant-loop g l =
-    met_along g.R.Chained.link g.R.Chained.bars g.R.Chained.clear l.rows l.i l.row (length l.rows - l.counter) l.l
-    ≡ met_along g.R.Chained.link g.R.Chained.bars g.R.Chained.clear l.rows l.i l.row (length l.rows) l.fn.head
+    met_along g.R.Chained.after g.R.Placed.bars g.R.Row.clear l.rows l.i l.row (length l.rows - l.counter) l.l
+    ≡ met_along g.R.Chained.after g.R.Placed.bars g.R.Row.clear l.rows l.i l.row (length l.rows) l.fn.head

@@ -10,19 +10,19 @@ returns-in_default g c = last-end _ _ _ _ _ _ c.loop.invariant (no_row _ c.in_de
 pub returns-in_default-get : goal.returns-in_default-get
 returns-in_default-get g c =
     last-not _ _ _ _ _ _ _ c.loop.invariant c.in-Some.is
-    (ap (λ r. g.R.Chained.stands_in r c.args.t) (get_or-eq_default c.args.rows.now g.R.Chained.clear c.in_default-get.ensures.lookup.3)
-    ∙ g.R.Chained.clear_stands c.args.t)
+    (ap (λ r. g.R.Placed.stands_in r c.args.t) (get_or-eq_default c.args.rows.now g.R.Row.clear c.in_default-get.ensures.lookup.3)
+    ∙ g.met.R.Placed.clear_stands c.args.t)
 
 pub returns-then-not-is_in : goal.returns-then-not-is_in
 returns-then-not-is_in g c =
     last-not _ _ _ _ _ _ _ c.loop.invariant c.in-Some.is
-    (rw (c.in-Some-get.ensures.lookup.3.1 g.R.Chained.clear) at (sym c.is_in.ensures ∙ c.if-not-is_in.true))
+    (rw (c.in-Some-get.ensures.lookup.3.1 g.R.Row.clear) at (sym c.is_in.ensures ∙ c.if-not-is_in.true))
 
 pub loop-preserved : goal.loop-preserved
 loop-preserved g c =
     last_on _ _ _ _ _ _ _ _ _ c.loop.invariant c.loop-test.true c.in-Some.is
-    (rw (c.in-Some-get.ensures.lookup.3.1 g.R.Chained.clear) at (sym c.is_in.ensures ∙ c.if-not-is_in.false))
-    (c.next-l.ensures ∙ ap g.R.Chained.link (c.in-Some-get.ensures.lookup.3.1 g.R.Chained.clear))
+    (rw (c.in-Some-get.ensures.lookup.3.1 g.R.Row.clear) at (sym c.is_in.ensures ∙ c.if-not-is_in.false))
+    (c.next-l.ensures ∙ ap g.R.Chained.after (c.in-Some-get.ensures.lookup.3.1 g.R.Row.clear))
 
 pub returns-in-None : goal.returns-in-None
 returns-in-None g c = last-end _ _ _ _ _ _ c.loop.invariant c.in-None.is

@@ -6,5 +6,5 @@ use Rattle.sound.proofs.last_in.Given as goal
 
 abbrev pub invariant-loop : goal.invariant-loop
 invariant-loop g l =
-    last_along (λ j. g.R.Chained.link (get_or l.rows j g.R.Chained.clear)) (λ j. g.R.Chained.stands_in (get_or l.rows j g.R.Chained.clear) l.t) (length l.rows - l.counter) l.l l.last
-    ≡ last_along (λ j. g.R.Chained.link (get_or l.rows j g.R.Chained.clear)) (λ j. g.R.Chained.stands_in (get_or l.rows j g.R.Chained.clear) l.t) (length l.rows) l.fn.head None
+    last_along (λ j. g.R.Chained.after (get_or l.rows j g.R.Row.clear)) (λ j. g.R.Placed.stands_in (get_or l.rows j g.R.Row.clear) l.t) (length l.rows - l.counter) l.l l.last
+    ≡ last_along (λ j. g.R.Chained.after (get_or l.rows j g.R.Row.clear)) (λ j. g.R.Placed.stands_in (get_or l.rows j g.R.Row.clear) l.t) (length l.rows) l.fn.head None
