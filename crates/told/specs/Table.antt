@@ -69,7 +69,7 @@ delegating d cs id block other child = tournament d cs (created id (Clocked bloc
 
 -- "eliminable block 10: at 9 none, at 10 due"
 pub record Clock (d : TournamentDescriptor) (cs : List Commitment) (id : MatchID) (st : List StandingRow) : Type 0 where
-  pub at-nine : Plans (clocked10 d cs id) st 9 (record { planned = (Ok None); steps = 2 })
+  pub at-nine : Plans (clocked10 d cs id) st 9 (record { planned = Ok None; steps = 2 })
   pub at-ten : Plans (clocked10 d cs id) st 10 (record { planned = Ok (Some (EliminateMatch d.address id)); steps = 2 })
 
 -- ---- all rows
@@ -86,4 +86,4 @@ pub record Numbers : Type 0 where
       (InnerEliminable reason) → Plans (delegating d cs id block other child) st at
       (record { planned = Ok (Some (EliminateChild d.address (descriptor_of child).address)); steps = 3 })
   pub again : (s : Store) (d : TournamentDescriptor) (a b : Digest) (reason : MatchDeletionReason) (m n : ℕ)
-      → (apply_rows s (Opening d)).answer ≡ (Ok tt) → same_digest a b ≡ false → Again s d a b reason m n
+      → (apply_rows s (Opening d)).answer ≡ Ok tt → same_digest a b ≡ false → Again s d a b reason m n
