@@ -43,6 +43,9 @@ module _ (ys : List StandingRow) (i : ℕ) (d : StandingRow) (x : Option Address
   opened = ap (twice (take i ys)) (sym (drop_more ys i d h)) ∙ q
 
   module _ (v : Option TournamentStanding) (is : v ≡ standing_of (take i ys) (get_or ys i d).tournament) where
+    pub twice-here : is_some v ≡ true → Some (get_or ys i d).tournament ≡ x
+    twice-here t = let f : is_there (standing_of (take i ys) (get_or ys i d).tournament) ≡ true = ap is_there (sym is) ∙ there-some v ∙ t in rw f at opened
+
     pub twice-on : is_some v ≡ false → twice (take (i + 1) ys) (drop (i + 1) ys) ≡ x
     twice-on t =
         let f : is_there (standing_of (take i ys) (get_or ys i d).tournament) ≡ false = ap is_there (sym is) ∙ there-some v ∙ t in
