@@ -13,7 +13,7 @@ use Rattle.store.specs.Rows.{match_at}
 use Rattle.routing.specs.Order.{order_of, row_in}
 use Rattle.routing.specs.Laws.{Leads, found-in-order, status-order, clocked_childless}
 use Rattle.changes.specs.Rules.{clocked_row, advance_at, seal_at, emitted, routed}
-use Rattle.changes.specs.Laws.{clocked_is}
+use Rattle.changes.specs.Laws.{found_clocked}
 use Rattle.dispute.specs.declared.Clocking.{Clocking}
 use Rattle.dispute.specs.Apply.{performed, step_rows}
 use Rattle.dispute.specs.Rows.{status_rows}
@@ -43,4 +43,4 @@ module _ (s : Store) (t : ℕ) where
   -- ---- and what it leaves
 
   pub order_kept : (c : Clocking) (i : ℕ) → clocked_row s t c.tournament c.match_id_hash ≡ Ok i → Childless c.status → order_of (status_rows s i c.status) ≡ order_of s
-  order_kept c i e h = status-order s i c.status (clocked_childless s (match_at s i).status (clocked_is s t c.tournament c.match_id_hash i e)) (h s)
+  order_kept c i e h = status-order s i c.status (clocked_childless s (match_at s i).status (found_clocked s t c.tournament c.match_id_hash i e)) (h s)
